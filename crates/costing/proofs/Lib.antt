@@ -1,0 +1,3 @@
+pub mod Cheaper
+pub mod Totals
+pub mod Answering

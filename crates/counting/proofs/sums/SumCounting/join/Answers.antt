@@ -1,0 +1,6 @@
+use native.Mathlib.Omega.{arith}
+use Rattle.counting.proofs.Same.{same-sum}
+use Rattle.counting.proofs.sums.SumCounting.join.Needs as need
+
+pub returns : need.returns
+returns c = same-sum _ _ (omega arith)

@@ -1,0 +1,4 @@
+pub mod Stops
+pub mod Ways
+pub mod Three
+pub mod Separate

@@ -1,0 +1,3 @@
+pub mod Canonical
+pub mod Cuts
+pub mod Joins
