@@ -3,7 +3,7 @@ ghost use mathlib.Core.Path.{_≡_};
 ghost use Rattle.problem.specs.Refusals.{refusal-number};
 
 /// The refusals of all calls.
-#[derive(Clone, Copy, PartialEq, Eq, Debug)]
+#[derive(Clone, Copy)]
 pub enum Refusal {
     /// The day has not 1 to 32 events.
     EventCount = 1,
