@@ -3,6 +3,8 @@
 #[cfg(test)]
 mod days;
 #[cfg(test)]
+mod networks;
+#[cfg(test)]
 mod rules;
 #[cfg(test)]
 mod timetables;

@@ -1,7 +1,6 @@
 //! The cost of one rule: the least among the choices that the minutes meet.
 ghost use mathlib.Core.Path.{_≡_};
 ghost use mathlib.Core.List.{map};
-ghost use lib.ListN.{length};
 ghost use Rattle.std.specs.Orderings.{Decides};
 ghost use Rattle.std.specs.shelf.Lists.{All};
 ghost use Rattle.problem.specs.Rules.{rule-of};
@@ -27,8 +26,8 @@ fn lesser_of<W: Counting>(kept: Option<W>, cost: W) -> W
     ensures { λ r. ⌜ r ≡ lesser (W·Counting .way) kept cost ⌝ }
 {
     match kept {
-        Some(least) => { if least.at_most(cost) { least } else { cost } }
-        None => cost,
+        Some(least) if least.at_most(cost) => least,
+        _ => cost,
     }
 }
 

@@ -69,7 +69,7 @@ no-leading-zero bs z two v h =
     (cases-eq v 0)
 
 -- such a text writes the number that its digits spell
-spells-written : (bs : List ℕ) (v : ℕ) → Writes bs v → Spells bs v
+pub spells-written : (bs : List ℕ) (v : ℕ) → Writes bs v → Spells bs v
 spells-written bs v h =
     let reads = decimal-reads v (omega arith) in
     subst (λ cs. Spells cs v) (sym (h .text)) (record { digits = reads .0 .1; number = sym (reads .1) })

@@ -1,3 +1,4 @@
 pub mod Canonical
 pub mod Cuts
 pub mod Joins
+pub mod Signs

@@ -4,4 +4,5 @@ mod number;
 
 pub use crate::cursor::Fields;
 pub use crate::number::IllFormed;
+pub use crate::number::integer;
 pub use crate::number::natural;

@@ -1,8 +1,9 @@
 //! The number that a field writes.
 ghost use Prim.Native.Nat.{ℕ, _≤_};
+ghost use lib.IntN.{ℤ};
 ghost use lib.ListN.{length};
 ghost use Rattle.std.specs.Results.{Cases};
-ghost use Rattle.fields.specs.Numbers.{Spells, Writes};
+ghost use Rattle.fields.specs.Numbers.{Spells, Writes, WritesSigned};
 
 /// The most digits that a number may have.
 const MOST_DIGITS: usize = 9;
@@ -23,6 +24,22 @@ pub fn natural(field: &[u8]) -> Result<u32, IllFormed>
         [b'0', _, ..] => Err(IllFormed),
         text if text.len() > MOST_DIGITS => Err(IllFormed),
         text => digits(text),
+    }
+}
+
+/// The number that a field writes in decimal, perhaps with a minus sign in front of its one to nine digits.
+/// Refuses every other text, and -0, so that each number has one writing.
+pub fn integer(field: &[u8]) -> Result<i32, IllFormed>
+    ensures { λ r. ⌜ Cases r
+        (λ z. WritesSigned (now (field .entry)) z)
+        (λ _. (z : ℤ) → WritesSigned (now (field .entry)) z → ⊥) ⌝ }
+{
+    match field {
+        [b'-', rest @ ..] => match natural(rest)? {
+            0 => Err(IllFormed),
+            n => Ok(-(n as i32)),
+        },
+        digits => Ok(natural(digits)? as i32),
     }
 }
 

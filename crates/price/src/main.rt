@@ -9,69 +9,32 @@ use counting::TierCounting;
 use counting::Worst;
 use counting::WorstCounting;
 use example::example_problem;
+use lines::LineSink;
+use lines::read_lines;
 use problem::Problem;
 use problem::check_timetable;
-use rounds::LineBuffer;
 use rounds::read_round;
 use std::error::AnyError;
-use std::io::Read;
 
 mod report;
 
-/// How many bytes are read at a time.
-const CHUNK: usize = 4096;
-
-/// Reads standard input to its end, and prices each line as it is completed.
-fn run(rt: &LibcRuntime) -> Result<(), AnyError> {
-    let problem = example_problem(rt.alloc())?;
-    let mut line = LineBuffer::new(rt.alloc());
-    let mut input = rt.stdin();
-    let mut chunk = [0; CHUNK];
-    for _ in 0..u64::MAX {
-        let count = input.read(&mut chunk)?;
-        if count == 0 {
-            break;
-        }
-        price_chunk(rt, &problem, &mut line, &chunk[0..count])?;
-    }
-    if line.is_begun() {
-        price_line(rt, &problem, &line)?;
-    }
-    Ok(())
+/// Prices each line against a problem.
+#[derive(Drop)]
+struct Pricer {
+    problem: Problem,
 }
 
-/// Prices each line that the bytes complete, and keeps the rest of them for the next line.
-fn price_chunk(
-    rt: &LibcRuntime,
-    problem: &Problem,
-    line: &mut LineBuffer,
-    bytes: &[u8],
-) -> Result<(), AnyError> {
-    for byte in bytes {
-        if *byte == b'\n' {
-            price_line(rt, problem, line)?;
-            line.advance();
-        } else {
-            line.add(*byte)?;
+impl LineSink for Pricer as PricerLineSink {
+    fn take(&mut self, rt: &LibcRuntime, number: u64, text: Option<&[u8]>) -> Result<(), AnyError> {
+        match text {
+            None => println!(rt, "line {number}: no round: it is too long")?,
+            Some([]) => println!(rt, "line {number}: no round: it is empty")?,
+            Some(text) => match read_round(rt.alloc(), text) {
+                Ok(minutes) => price_round(rt, &self.problem, number, minutes.as_slice())?,
+                Err(fault) => report_fault(rt, number, fault)?,
+            },
         }
-    }
-    Ok(())
-}
-
-/// Prints what one line costs under each way of counting, or why it is no round.
-fn price_line(rt: &LibcRuntime, problem: &Problem, line: &LineBuffer) -> Result<(), AnyError> {
-    let number = line.number();
-    let Some(text) = line.text() else {
-        println!(rt, "line {number}: no round: it is too long")?;
-        return Ok(());
-    };
-    if text.is_empty() {
-        println!(rt, "line {number}: no round: it is empty")?;
-        return Ok(());
-    }
-    match read_round(rt.alloc(), text) {
-        Ok(minutes) => price_round(rt, problem, number, minutes.as_slice()),
-        Err(fault) => report_fault(rt, number, fault),
+        Ok(())
     }
 }
 
@@ -88,6 +51,12 @@ fn price_round(
     report_cost::<Sum>(rt, number, "SUM", problem, minutes)?;
     report_cost::<Worst>(rt, number, "WORST", problem, minutes)?;
     report_cost::<Tier>(rt, number, "TIER", problem, minutes)
+}
+
+/// Prices every line of standard input against the example.
+fn run(rt: &LibcRuntime) -> Result<(), AnyError> {
+    let problem = example_problem(rt.alloc())?;
+    read_lines(rt, &mut Pricer { problem })
 }
 
 fn main(rt: LibcRuntime) -> Result<(), AnyError> {

@@ -13,7 +13,7 @@ use Rattle.problem.specs.declared.constraint.Disjunct.{Disjunct}
 use Rattle.problem.specs.declared.day.Day.{Day}
 use Rattle.problem.specs.declared.refusal.Refusal.{Refusal}
 use Rattle.problem.specs.Rules.{Rule}
-use Rattle.problem.specs.Checks.{Check, first-refusal, passes, kind-checks, disjunct-checks, rule-checks}
+use Rattle.problem.specs.Checks.{Check, first-refusal, passes, two-events, kind-checks, disjunct-checks, rule-checks}
 
 -- a check that holds, before others that pass
 pass-one : (t : Bool) (o : Option Refusal) (e : Refusal) (b : Bool) → None ≡ cond t o (Some e) → (None ≡ o → b ≡ true) → (t && b) ≡ true
@@ -65,7 +65,7 @@ module _ (day : Day) where
 
   events-fit : (d : Disjunct) → passes (disjunct-checks day d) ≡ true → Of-events d
   events-fit d h =
-      let p = and-parts (ltb (d .x) (day .events) && (ltb (d .y) (day .events) && not (eqb (d .x) (d .y)))) _ h .0 in
+      let p = and-parts (two-events day (d .x) (d .y)) _ h .0 in
       let q = and-parts (ltb (d .x) (day .events)) _ p in
       (ltb-true _ _ (q .0), ltb-true _ _ (and-parts (ltb (d .y) (day .events)) _ (q .1) .0))
 

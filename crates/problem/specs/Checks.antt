@@ -3,6 +3,7 @@
 --   first-refusal     the refusal of the first check that does not hold
 --   passes            every check holds
 --   in-range          a bound is within range
+--   two-events        two different events of a day
 --   day-checks        of a day: its events, its horizon
 --   penalty-checks    of a penalty
 --   kind-checks       of a rule's kind: the penalty for giving it up
@@ -67,10 +68,14 @@ kind-checks (Wish p) = penalty-checks p
 abbrev pub in-range : ℤ → Bool
 in-range b = leZ (negℤ (pos max-bound)) b && leZ b (pos max-bound)
 
+-- x and y are two different events of the day
+abbrev pub two-events : Day → ℕ → ℕ → Bool
+two-events day x y = ltb x (day .events) && (ltb y (day .events) && not (eqb x y))
+
 -- two different events of the day, both bounds in range and in order, and the penalty
 abbrev pub disjunct-checks : Day → Disjunct → List Check
 disjunct-checks day d =
-    check (ltb (d .x) (day .events) && (ltb (d .y) (day .events) && not (eqb (d .x) (d .y)))) refusal.EventPair
+    check (two-events day (d .x) (d .y)) refusal.EventPair
     ∷ (check (in-range (d .lo) && (in-range (d .hi) && leZ (d .lo) (d .hi))) refusal.BoundRange ∷ penalty-checks (d .penalty))
 
 -- 1 to max-disjuncts options, then the kind, then each option in stated order

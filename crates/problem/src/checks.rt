@@ -33,7 +33,8 @@ fn check_kind(kind: Kind) -> Result<(), Refusal>
     }
 }
 
-fn is_bound(minutes: i32) -> bool
+/// Whether a gap may have these minutes as its bound.
+pub fn is_bound(minutes: i32) -> bool
     ensures { λ r. ⌜ r ≡ in-range minutes ⌝ }
 {
     -MAX_BOUND <= minutes && minutes <= MAX_BOUND
@@ -49,7 +50,7 @@ fn check_disjunct(day: Day, disjunct: &Disjunct) -> Result<(), Refusal>
         hi,
         penalty,
     } = *disjunct;
-    if x >= day.events() || y >= day.events() || x == y {
+    if !day.has_pair(x, y) {
         return Err(Refusal::EventPair);
     }
     if !is_bound(lo) || !is_bound(hi) || lo > hi {

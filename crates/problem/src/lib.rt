@@ -8,6 +8,7 @@ mod refusal;
 mod timetable;
 
 pub use checks::check_rule;
+pub use checks::is_bound;
 pub use constraint::Constraint;
 pub use constraint::Disjunct;
 pub use constraint::Kind;

@@ -1,10 +1,7 @@
-//! Rounds as text: lines of input in bounded memory, and the minutes that a line states.
+//! Rounds as text: the minutes that a line states.
 
-mod line;
 mod reading;
 
-pub use line::LineBuffer;
-pub use line::MAX_LINE;
 pub use reading::RoundFault;
 pub use reading::RoundFaultDebug;
 pub use reading::RoundFaultPartialEq;

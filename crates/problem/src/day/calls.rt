@@ -2,7 +2,7 @@
 ghost use mathlib.Core.Path.{_≡_};
 ghost use Rattle.std.specs.Results.{errPart};
 ghost use Rattle.std.specs.Vec.{made};
-ghost use Rattle.problem.specs.Checks.{first-refusal, day-checks};
+ghost use Rattle.problem.specs.Checks.{first-refusal, day-checks, two-events};
 use crate::day::Day;
 use crate::day::MAX_EVENTS;
 use crate::day::MAX_HORIZON;
@@ -40,6 +40,13 @@ impl Day {
         ensures { λ r. ⌜ r ≡ self .events ⌝ }
     {
         self.events
+    }
+
+    /// Whether these are two different events of the day.
+    pub fn has_pair(self, x: usize, y: usize) -> bool
+        ensures { λ r. ⌜ r ≡ two-events self x y ⌝ }
+    {
+        x < self.events && y < self.events && x != y
     }
 
     /// The last minute of the day.

@@ -1,7 +1,6 @@
 //! How a problem is made and changed, and what it tells.
 ghost use mathlib.Core.Path.{_≡_};
 ghost use mathlib.Core.List.{[], _∷_, _++_, map};
-ghost use Prim.Native.Nat.{_≤_};
 ghost use Rattle.std.specs.Options.{mapped};
 ghost use Rattle.std.specs.Results.{errPart, Cases};
 ghost use Rattle.std.specs.Vec.{made};

@@ -1,0 +1,5 @@
+pub mod Limits
+pub mod Nets
+pub mod Calls
+pub mod Laws
+pub mod Prefixes

@@ -1,0 +1,3 @@
+pub mod Distances
+pub mod Shortest
+pub mod Model
