@@ -13,12 +13,12 @@ use Rattle.problem.specs.declared.refusal.Refusal.the-variants.{Clash}
 use Rattle.network.specs.Calls.{Granted, Clashing}
 use Rattle.network.specs.Limits.{Lawful, max-limits, limit-checks}
 use Rattle.network.specs.declared.limit.Limit.{Limit}
-use Rattle.network.proofs.Taken.{taken-lawful, taken-room}
+use Rattle.network.proofs.Taken.{taken-lawful, taken-room, counted-passes}
 use Rattle.list_network.specs.Model.{modelled}
 use Rattle.list_network.specs.Relaxing.{Lost, Settling}
 use Rattle.list_network.specs.declared.list.ListNetwork.{ListNetwork}
 use Rattle.list_network.proofs.Held.{held}
-use Rattle.list_network.proofs.Stack.{Stacked, net, solves, passes-before, all-lawful, clashes, beyond, one-more}
+use Rattle.list_network.proofs.Stack.{Stacked, net, solves, all-lawful, clashes, beyond, one-more}
 
 module _ (s : ListNetwork) (l : Limit) (none : None ≡ first-refusal (limit-checks (s .day) (s .count) l)) where
   -- the array of limits with l written in, and those of it that count
@@ -50,7 +50,7 @@ module _ (s : ListNetwork) (l : Limit) (none : None ≡ first-refusal (limit-che
   -- no minutes are left
   pub refused : Lost (s .day) l longer row → Clashing (modelled s) l Clash
   refused lost = record {
-    passes = passes-before (s .day) (s .count) (s .limits) l (omega (arith, room)) none;
+    passes = counted-passes (s .day) (s .count) (s .limits) l (omega (arith, room)) none;
     clash = refl;
     unsolvable = clashes (s .day) (s .count) (s .limits) (s .times) l room (held s) good lost;
   }
@@ -67,7 +67,7 @@ module _ (s : ListNetwork) (l : Limit) (none : None ≡ first-refusal (limit-che
 
     pub granted : Granted (modelled s) l (net (s .day) longer)
     granted = record {
-      passes = passes-before (s .day) (s .count) (s .limits) l (omega (arith, room)) none;
+      passes = counted-passes (s .day) (s .count) (s .limits) l (omega (arith, room)) none;
       becomes = ap (net (s .day)) (take-more-set (s .limits) (s .count) l room);
       solvable = (minute (getD rows (s .count + 1) []), solves (s .day) (s .count + 1) written rows grown (simp length-set (omega (arith, room))));
     }

@@ -1,24 +1,22 @@
 -- The smallest minutes of each beginning of the limits: what always holds of them, and how the calls keep it.
-use mathlib.Core.Path.{_≡_, refl, sym, ap, subst, _∙_}
+use mathlib.Core.Path.{_≡_, refl, sym, subst}
 use mathlib.Core.List.{List, []}
 use mathlib.Core.Logic.{inl, inr, ⊎-elim}
 use Prim.Native.Nat.{ℕ, _≤_, _<_, _+_}
 use native.Mathlib.Omega.{arith}
 use lib.ListN.{length, getD, set, take, replicate}
 use Rattle.std.specs.shelf.Lists.{All}
-use Rattle.std.specs.declared.option.Option.the-variants.{None}
-use Rattle.std.proofs.shelf.Lists.{getD-set-same, getD-set-other, length-take-le, getD-replicate, getD-past, length-replicate, take-more-set, length-set}
+use Rattle.std.proofs.shelf.Lists.{getD-set-same, getD-set-other, getD-replicate, getD-past, length-replicate, take-more-set, length-set}
 use Rattle.std.proofs.shelf.Tests.{cases-eq, cases-lt}
 use Rattle.problem.specs.Bounds.{max-events}
-use Rattle.problem.specs.Checks.{first-refusal}
 use Rattle.problem.specs.Timetables.{OfDay, minute}
 use Rattle.problem.specs.declared.day.Day.{Day}
-use Rattle.network.specs.Calls.{refusal-before, with-limit}
-use Rattle.network.specs.Limits.{Lawful, Keeps, limit-checks}
+use Rattle.network.specs.Calls.{with-limit}
+use Rattle.network.specs.Limits.{Lawful, Keeps}
 use Rattle.network.specs.Nets.{Net, Solves, Unsolvable, Earliest}
-use Rattle.network.specs.Prefixes.{nowhere, Throughout}
+use Rattle.network.specs.Prefixes.{Throughout}
 use Rattle.network.specs.declared.limit.Limit.{Limit}
-use Rattle.network.proofs.Prefixes.{all-first, first-all, under-write, from-write}
+use Rattle.network.proofs.Prefixes.{all-first, first-all, under-write, from-write, throughout-more, throughout-new}
 use Rattle.list_network.specs.Relaxing.{Old, Candidate, Below, Lost, Settling}
 
 -- ts are a timetable that keeps the first k limits, and no such timetable has an earlier minute
@@ -75,12 +73,6 @@ module _ (day : Day) (c : ℕ) (ls : List Limit) (tss : List (List ℕ)) (s : St
     lowest = λ T t. s .smallest c (omega arith) .lowest T (t .0) (first-all (Keeps T) ls c le (t .1)) i;
   }
 
--- the checks of a limit, as the network's meaning has them
-pub passes-before :
-    (day : Day) (c : ℕ) (ls : List Limit) (l : Limit) → c ≤ length ls → None ≡ first-refusal (limit-checks day c l)
-    → refusal-before (net day (take c ls)) l ≡ None
-passes-before day c ls l le none = ap (λ n. first-refusal (limit-checks day n l)) (length-take-le c ls le) ∙ sym none
-
 -- l is written at c
 module _ (day : Day) (c : ℕ) (ls : List Limit) (tss : List (List ℕ)) (l : Limit) (room : c < length ls) (s : Stacked day c ls tss) (good : Lawful day l) where
   abbrev written : List Limit
@@ -95,34 +87,21 @@ module _ (day : Day) (c : ℕ) (ls : List Limit) (tss : List (List ℕ)) (l : Li
   long : c + 1 ≤ length written
   long = simp length-set (omega arith)
 
-  newest : getD written c nowhere ≡ l
-  newest = getD-set-same ls c l nowhere room
-
-  -- what holds of the first c limits and of l holds of the first c + 1
-  throughout : (P : Limit → Type 0) → Throughout P ls c → P l → Throughout P written (c + 1)
-  throughout P before here k lt =
-      ⊎-elim
-      (λ (e : k ≡ c).
-      let F : ℕ → Type 0 = λ j. P (getD written j nowhere) in
-      subst F (sym e) (subst P (sym newest) here))
-      (λ (apart : k ≡ c → ⊥). subst P (sym (getD-set-other ls c k l nowhere apart)) (before k (omega arith)))
-      (cases-eq k c)
-
   lawful-longer : Throughout (Lawful day) written (c + 1)
-  lawful-longer = throughout (Lawful day) (s .lawful) good
+  lawful-longer = throughout-more (Lawful day) ls c l room (s .lawful) good
 
   pub all-lawful : All (Lawful day) longer
   all-lawful = all-first (Lawful day) written (c + 1) long lawful-longer
 
   -- the minutes so far keep each limit but the newest
   old : Throughout (Old row l) written (c + 1)
-  old = throughout (Old row l) (λ k lt. inl (s .smallest c (omega arith) .keeps k lt)) (inr refl)
+  old = throughout-more (Old row l) ls c l room (λ k lt. inl (s .smallest c (omega arith) .keeps k lt)) (inr refl)
 
   -- a timetable of the day that keeps all limits is a candidate, and the minutes so far are below it
   candidate : (T : ℕ → ℕ) → OfDay day T → Throughout (Keeps T) written (c + 1) → Candidate day l longer row T
   candidate T timetable keeps = record {
     timetable = timetable;
-    keeps-newest = (let K : Limit → Type 0 = Keeps T in subst K newest (keeps c (omega arith)));
+    keeps-newest = throughout-new (Keeps T) ls c l room keeps;
     keeps = all-first (Keeps T) written (c + 1) long keeps;
     old = all-first (Old row l) written (c + 1) long old;
   }

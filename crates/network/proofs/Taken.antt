@@ -1,11 +1,14 @@
 -- What is known of a limit that passed its checks.
-use mathlib.Core.Path.{_≡_, refl}
+use mathlib.Core.Path.{_≡_, refl, sym, ap, _∙_}
 use mathlib.Core.Bool.{Bool, true, false, cond}
-use Prim.Native.Nat.{ℕ, _<_}
+use mathlib.Core.List.{List}
+use Prim.Native.Nat.{ℕ, _<_, _≤_}
+use lib.ListN.{length, take}
 use lib.Dec.{ltb}
 use lib.IntN.{pos, negℤ}
 use lib.Signed.{_≤ℤ_, leZ}
 use native.Mathlib.Omega.{arith}
+use Rattle.std.proofs.shelf.Lists.{length-take-le}
 use Rattle.std.proofs.shelf.Signed.{ints}
 use Rattle.std.proofs.shelf.Tests.{and-parts, ltb-true, not-true, eqb-false, false≢true}
 use Rattle.std.specs.declared.option.Option.{Option}
@@ -14,6 +17,7 @@ use Rattle.problem.specs.Bounds.{max-bound}
 use Rattle.problem.specs.Checks.{first-refusal, two-events, in-range}
 use Rattle.problem.specs.declared.day.Day.{Day}
 use Rattle.problem.specs.declared.refusal.Refusal.{Refusal}
+use Rattle.network.specs.Calls.{refusal-before}
 use Rattle.network.specs.Limits.{Lawful, max-limits, limit-checks}
 use Rattle.network.specs.declared.limit.Limit.{Limit}
 
@@ -52,3 +56,9 @@ module _ (day : Day) (l : Limit) (h : Lawful day l) where
 
   pub lawful-high : l .bound ≤ℤ pos max-bound
   lawful-high = let p = and-parts (leZ (negℤ (pos max-bound)) (l .bound)) _ (h .bound) .1 in grind (arith, ints)
+
+-- the checks of a limit beside the first c of an array, as a network with these limits has them
+pub counted-passes :
+    (day : Day) (c : ℕ) (ls : List Limit) (l : Limit) → c ≤ length ls → None ≡ first-refusal (limit-checks day c l)
+    → refusal-before (record { day = day; limits = take c ls }) l ≡ None
+counted-passes day c ls l within none = ap (λ k. first-refusal (limit-checks day k l)) (length-take-le c ls within) ∙ sym none

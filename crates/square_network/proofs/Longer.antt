@@ -1,41 +1,22 @@
 -- One limit more: the shortened distances are the shortest.
-use mathlib.Core.Path.{_≡_, sym, ap, subst, _∙_}
-use mathlib.Core.Logic.{⊎-elim}
+use mathlib.Core.Path.{_≡_, _∙_}
 use mathlib.Core.List.{List}
 use Prim.Native.Nat.{ℕ, _<_, _+_}
 use native.Mathlib.Omega.{arith}
 use lib.IntN.{ℤ, pos, _+ℤ_}
 use lib.Signed.{_≤ℤ_}
 use lib.ListN.{length, getD, set}
-use Rattle.std.proofs.shelf.Lists.{getD-set-same, getD-set-other}
 use Rattle.std.proofs.shelf.Signed.{ints, clamps}
-use Rattle.std.proofs.shelf.Tests.{cases-eq}
 use Rattle.problem.specs.Timetables.{OfDay, gap}
 use Rattle.problem.specs.declared.day.Day.{Day}
 use Rattle.network.specs.Limits.{Lawful, Keeps}
 use Rattle.network.specs.Prefixes.{Throughout, nowhere}
 use Rattle.network.specs.declared.limit.Limit.{Limit}
-use Rattle.network.proofs.Prefixes.{from-write}
+use Rattle.network.proofs.Prefixes.{throughout-more, throughout-old, throughout-new}
 use Rattle.network.proofs.Taken.{lawful-x, lawful-y}
 use Rattle.square_network.specs.Distances.{at, through, Bounds, Shortened}
 use Rattle.square_network.specs.Shortest.{Shortest}
 use Rattle.square_network.proofs.Shorter.{under-old, under-new, same-kept, triangle-kept}
-
--- what holds of the first c limits and of the newest holds of all of them
-pub throughout-more : (P : Limit → Type 0) (ls : List Limit) (c : ℕ) (l : Limit) → c < length ls → Throughout P ls c → P l
-    → Throughout P (set ls c l) (c + 1)
-throughout-more P ls c l room old new m lt =
-    ⊎-elim
-    (λ (e : m ≡ c). subst P (sym (ap (λ j. getD (set ls c l) j nowhere) e ∙ getD-set-same ls c l nowhere room)) new)
-    (λ (apart : m ≡ c → ⊥). subst P (sym (getD-set-other ls c m l nowhere apart)) (old m (omega arith)))
-    (cases-eq m c)
-
--- and the other way
-pub throughout-old : (P : Limit → Type 0) (ls : List Limit) (c : ℕ) (l : Limit) → Throughout P (set ls c l) (c + 1) → Throughout P ls c
-throughout-old P ls c l h = from-write P ls c c l (omega arith) (λ k lt. h k (omega arith))
-
-pub throughout-new : (P : Limit → Type 0) (ls : List Limit) (c : ℕ) (l : Limit) → c < length ls → Throughout P (set ls c l) (c + 1) → P l
-throughout-new P ls c l room h = subst P (getD-set-same ls c l nowhere room) (h c (omega arith))
 
 -- where the limit leaves the way back
 module _ (day : Day) (ls : List Limit) (c : ℕ) (D : List ℤ) (s : Shortest day ls c D) (all : Throughout (Lawful day) ls c)

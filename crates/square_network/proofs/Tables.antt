@@ -10,28 +10,21 @@ use lib.ListN.{length, replicate, set, take}
 use Rattle.std.specs.shelf.Lists.{All}
 use Rattle.std.proofs.shelf.Lists.{getD-set-same, getD-set-other, take-more-set, length-set, length-take-le}
 use Rattle.std.proofs.shelf.Tests.{cases-eq}
-use Rattle.std.specs.declared.option.Option.the-variants.{None}
-use Rattle.problem.specs.Checks.{first-refusal}
 use Rattle.problem.specs.declared.day.Day.{Day}
-use Rattle.network.specs.Calls.{with-limit, refusal-before}
-use Rattle.network.specs.Limits.{Lawful, Keeps, max-limits, limit-checks}
+use Rattle.network.specs.Calls.{with-limit}
+use Rattle.network.specs.Limits.{Lawful, Keeps, max-limits}
 use Rattle.network.specs.Nets.{Net, Solves, Unsolvable, Earliest, Sound}
 use Rattle.network.specs.declared.limit.Limit.{Limit}
-use Rattle.network.proofs.Prefixes.{all-first, first-all, under-write, from-write}
+use Rattle.network.proofs.Prefixes.{all-first, first-all, under-write, from-write, throughout-more, throughout-old, throughout-new}
 use Rattle.square_network.specs.Distances.{at, Bounds, Opened, Shortened}
 use Rattle.square_network.specs.Shortest.{Shortest, Held, table}
 use Rattle.square_network.proofs.Answered.{soonest, of-day, keeps, lowest, clash}
-use Rattle.square_network.proofs.Longer.{longer, throughout-more, throughout-old, throughout-new}
+use Rattle.square_network.proofs.Longer.{longer}
 use Rattle.square_network.proofs.Opening.{unlimited}
 
 -- the network of the first c limits
 abbrev pub net : Day → ℕ → List Limit → Net
 net day c ls = record { day = day; limits = take c ls }
-
--- the checks count the limits of the network
-pub passes : (day : Day) (c : ℕ) (ls : List Limit) (l : Limit) → c ≤ length ls → None ≡ first-refusal (limit-checks day c l)
-    → refusal-before (net day c ls) l ≡ None
-passes day c ls l within none = ap (λ k. first-refusal (limit-checks day k l)) (length-take-le c ls within) ∙ sym none
 
 -- no limits
 pub held-none : (day : Day) (ls : List Limit) (Ds : List (List ℤ)) → Opened day (table Ds 0) → Held day 0 ls Ds
