@@ -12,7 +12,7 @@ pub overflow-add-number : goal.overflow-add-number
 overflow-add-number c = omega (arith, front_small c.args.text.now c.loop-byte.byte-index c.loop-byte.number c.loop-byte-test.true c.requires c.loop-byte.invariant)
 
 pub loop-byte-preserved : goal.loop-byte-preserved
-loop-byte-preserved c = one_more c.args.text.now c.loop-byte.byte-index _ _ c.loop-byte-test.true (sym c.is-ascii-digit.ensures.value ∙ c.if-not-is-ascii-digit.false) c.from.ensures c.loop-byte.invariant
+loop-byte-preserved c = one_more c.args.text.now c.loop-byte.byte-index _ _ c.loop-byte-test.true (sym c.is_ascii_digit.ensures.value ∙ c.if-not-is_ascii_digit.false) c.from.ensures c.loop-byte.invariant
 
 pub returns : goal.returns
 returns c = no_more c.args.text.now c.loop-byte.byte-index _ c.loop-byte-test.false c.loop-byte.invariant

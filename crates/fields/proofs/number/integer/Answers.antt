@@ -18,7 +18,7 @@ returns-in-0 c =
     let bs = c.args.field.now in
     let minus : get_or bs 0 0 ≡ 45 = search rules in
     let some : 0 < length bs = search rules in
-    minus_zero bs some minus (subst (Writes _) c.in-0.is c.in-ok-n.ensures)
+    minus_zero bs some minus (subst (Writes _) c.in-0.is c.in_ok-n-in-45.ensures)
 
 pub returns-in-default-2 : goal.returns-in-default-2
 returns-in-default-2 c =
