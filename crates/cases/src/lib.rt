@@ -1,4 +1,5 @@
 //! Stored cases: tables of calls and what they must answer, each worked out by hand.
+#![tactic(auto)]
 
 #[cfg(test)]
 mod days;

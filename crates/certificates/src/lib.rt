@@ -1,4 +1,5 @@
 //! Certificates of what a search did: evidence that a small computation checks.
+#![tactic(auto)]
 
 mod theorems;
 

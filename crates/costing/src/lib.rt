@@ -1,4 +1,5 @@
 //! What a given timetable costs, under any way of counting.
+#![tactic(auto)]
 
 mod cost;
 mod least;

@@ -3,4 +3,4 @@ pub mod Ways
 pub mod Three
 pub mod Separate
 pub mod Same
-pub mod WorstCountingLemmas
+pub mod Lawful

@@ -1,7 +1,7 @@
 -- What would go wrong if TIER stopped breaches and points each for itself.
 --   separately                       that other join
 --   SeparateStopsBreakTheOrder   it turns the order of two costs
-use Rattle.std.specs.Prelude.{◌≡◌, ℕ, ◌+◌, min, true, false}
+use Rattle.std.specs.Prelude.{◌≡◌, ◌+◌, min, true, false}
 use Rattle.std.proofs.Common.{arith}
 use Rattle.counting.specs.Stops.{points_stop, breaches_stop}
 use Rattle.counting.specs.Three.{tier, tier_way}

@@ -1,7 +1,7 @@
 -- The three ways of counting, by arithmetic.
 --   sum, worst, tier               the costs of plain numbers, within the stops
 --   sum_way, worst_way, tier_way   SUM, WORST and TIER
-use Rattle.std.specs.Prelude.{◌≡◌, ℕ, ◌+◌, ◌≤◌, min, max, Bool, true, false, cond, ◌&&◌, ◌||◌, ◌==◌, nat_le, nat_lt}
+use Rattle.std.specs.Prelude.{ℕ, ◌+◌, ◌≤◌, min, max, cond, ◌&&◌, ◌||◌, ◌==◌, nat_le, nat_lt}
 use Rattle.std.proofs.Common.{arith}
 use Rattle.std.proofs.lemmas.Bool.{cond_both}
 use Rattle.counting.specs.Stops.{max_points, points_stop, breaches_stop}

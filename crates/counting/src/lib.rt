@@ -1,4 +1,5 @@
 //! Ways of counting: what a cost is, and how costs are joined, compared and shown.
+#![tactic(auto)]
 
 mod costs;
 mod penalty;

@@ -1,8 +1,6 @@
 //! SUM: points are added.
 ghost use Rattle.counting.specs.Three.{sum_way};
-ghost use Rattle.std.proofs.Common.{inl, inr, arith};
-ghost use Rattle.std.proofs.lemmas.Bool.{cases_lt, le-leb, leb-true};
-ghost use Rattle.counting.specs.Same.{same_sum};
+ghost use Rattle.counting.specs.Lawful.{sum_lawful};
 
 use crate::costs::Sum;
 use crate::penalty::Penalty;
@@ -14,17 +12,7 @@ impl Counting for Sum {
 
     const ZERO: Sum = Sum { total: 0 };
 
-    ghost lawful = { record {
-      total = λ x y. elim (cases_lt x.total y.total) [ inl h ↦ inl (le-leb _ _ (omega arith)) | inr h ↦ inr (le-leb _ _ h) ];
-      trans = λ x y z h i. le-leb _ _ (omega (arith, leb-true _ _ h, leb-true _ _ i));
-      antisym = λ x y h i. same_sum x y (omega (arith, leb-true _ _ h, leb-true _ _ i));
-      assoc = λ x y z. same_sum _ _ (omega arith);
-      comm = λ x y. same_sum _ _ (omega arith);
-      neutral = λ x. same_sum _ _ (omega arith);
-      least = λ x. le-leb _ _ (omega arith);
-      mono = λ x y z h. le-leb _ _ (omega (arith, leb-true _ _ h));
-      fits = λ x. (omega arith, omega arith);
-    } };
+    ghost lawful = { sum_lawful };
 
     fn zero_cost() -> Sum {
         Self::ZERO

@@ -1,10 +1,7 @@
 //! TIER: breaches weigh more than any points.
 ghost use Rattle.std.specs.Prelude.{◌≡◌};
 ghost use Rattle.counting.specs.Three.{tier, tier_way};
-ghost use Rattle.std.proofs.Common.{inl, inr, arith};
-ghost use Rattle.std.proofs.lemmas.Bool.{cases_Bool};
-ghost use Rattle.std.proofs.lemmas.Bool.Decides.{nat_tests};
-ghost use Rattle.counting.specs.Same.{same_tier};
+ghost use Rattle.counting.specs.Lawful.{tier_lawful};
 
 use crate::costs::Tier;
 use crate::penalty::Penalty;
@@ -35,17 +32,7 @@ impl Counting for Tier {
         points: 0,
     };
 
-    ghost lawful = { record {
-      total = λ x y. elim (cases_Bool (tier_way.atmost x y)) [ inl h ↦ inl h | inr h ↦ inr (Prim.grind (arith, nat_tests)) ];
-      trans = λ x y z h i. Prim.grind (arith, nat_tests);
-      antisym = λ x y h i. same_tier x y (Prim.grind (arith, nat_tests)) (Prim.grind (arith, nat_tests));
-      assoc = λ x y z. same_tier _ _ (omega arith) (Prim.grind (arith, nat_tests));
-      comm = λ x y. same_tier _ _ (omega arith) (Prim.grind (arith, nat_tests));
-      neutral = λ x. same_tier _ _ (omega arith) (Prim.grind (arith, nat_tests));
-      least = λ x. Prim.grind (arith, nat_tests);
-      mono = λ x y z h. Prim.grind (arith, nat_tests);
-      fits = λ x. (omega arith, omega arith);
-    } };
+    ghost lawful = { tier_lawful };
 
     fn zero_cost() -> Tier {
         Self::ZERO

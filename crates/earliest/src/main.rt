@@ -1,4 +1,6 @@
 //! Runs calls on a list network and on a square network, one call a line of standard input, and prints each answer.
+#![tactic(auto)]
+
 use crate::answer::{Answer, apply, report};
 use crate::reading::read_call;
 use lines::{LineSink, read_lines};

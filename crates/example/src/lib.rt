@@ -1,4 +1,6 @@
 //! A small problem to try things on: two rounds of one hour, kept apart, with a wish for each.
+#![tactic(auto)]
+
 ghost use Rattle.std.specs.Prelude.{◌≡◌, ◌<◌, [], ◌∷◌, ◌++◌, length, IfOk, None, OnOk};
 ghost use Rattle.problem.specs.Bounds.{max_rules};
 ghost use Rattle.problem.specs.Checks.{first_refusal, rule_checks};

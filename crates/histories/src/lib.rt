@@ -1,4 +1,5 @@
 //! Lists of calls on planners, and what a planner is worth after any of them.
+#![tactic(auto)]
 
 mod calls;
 mod replays;

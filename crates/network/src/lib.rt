@@ -1,4 +1,5 @@
 //! Simple temporal networks: what a network means, and what follows for any of them.
+#![tactic(auto)]
 
 mod calls;
 mod laws;

@@ -1,4 +1,5 @@
 //! Scripts of calls on either network, to be run from Rust by a benchmark.
+#![tactic(auto)]
 
 mod calls;
 mod exports;

@@ -1,4 +1,5 @@
 //! The planner: a draft that takes a day and rules, and a search over any network and any way of counting.
+#![tactic(auto)]
 
 mod advance;
 mod choice;

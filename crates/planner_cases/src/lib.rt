@@ -1,4 +1,5 @@
 //! Stored cases of the planner: small books by calls, each worked out by hand, over both networks.
+#![tactic(auto)]
 
 #[cfg(test)]
 mod bench;

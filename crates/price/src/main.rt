@@ -1,4 +1,6 @@
 //! Prices rounds: reads one round a line from standard input, and prints what each costs under each way of counting.
+#![tactic(auto)]
+
 use crate::report::{report_cost, report_fault, report_flaw};
 use counting::{Sum, Tier, Worst};
 use example::example_problem;

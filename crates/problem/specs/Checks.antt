@@ -9,7 +9,7 @@
 --   kind_checks       of a rule's kind: the penalty for giving it up
 --   disjunct_checks   of an option: its events, its bounds, its penalty
 --   rule_checks       of a rule: how many options, its kind, then each option
-use Rattle.std.specs.Prelude.{ℕ, Bool, true, false, cond, not, ◌&&◌, List, [], ◌∷◌, ◌++◌, length, ℤ, pos, neg_ℤ, Some, None, Option, ◌==◌, int_le, nat_le, nat_lt}
+use Rattle.std.specs.Prelude.{ℕ, Bool, true, cond, not, ◌&&◌, List, [], ◌∷◌, ◌++◌, length, ℤ, pos, neg_ℤ, Some, None, Option, ◌==◌, int_le, nat_le, nat_lt}
 use Rattle.std.specs.List.{flat_map}
 use Rattle.counting.specs.Stops.{max_breaches, max_points}
 use Rattle.counting.specs.declared.penalty.Penalty.{Penalty}

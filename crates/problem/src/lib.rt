@@ -1,4 +1,5 @@
 //! The problem: days, timetables, constraints with their disjuncts, and the refusals of all calls.
+#![tactic(auto)]
 
 mod checks;
 mod constraint;

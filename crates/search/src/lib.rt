@@ -1,4 +1,5 @@
 //! What a search means, and why its end can be trusted.
+#![tactic(auto)]
 
 mod theorems;
 mod word;

@@ -1,5 +1,6 @@
 //! Small books whose searches can be followed by hand: what the definitions of a search make of them, and what searches
 //! that go astray would make of them.
+#![tactic(auto)]
 
 mod theorems;
 

@@ -1,4 +1,5 @@
 //! A simple temporal network that keeps the shortest distances between all pairs of events.
+#![tactic(auto)]
 
 mod distances;
 mod square;

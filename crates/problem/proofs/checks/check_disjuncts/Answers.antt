@@ -1,4 +1,4 @@
-use Rattle.std.proofs.Common.{sym, ap, ◌∙◌}
+use Rattle.std.proofs.Common.{sym, ◌∙◌}
 use Rattle.std.proofs.lemmas.List.{at_drop_all}
 use Rattle.std.proofs.lemmas.Result.{err_from_is_err_and}
 use Rattle.std.specs.List.{flat_map}
@@ -9,13 +9,13 @@ use Rattle.problem.proofs.checks.check_disjuncts.Goals as goal
 pub loop-disjunct-preserved : goal.loop-disjunct-preserved
 loop-disjunct-preserved c =
     c.loop-disjunct.invariant
-    ∙ first_passed (disjunct_checks c.args.day) c.args.disjuncts.now c.loop-disjunct.disjunct-index past_end c.loop-disjunct-test.true c.in-ok-check-disjunct.ensures
+    ∙ first_passed (disjunct_checks c.args.day) c.args.disjuncts.now c.loop-disjunct.disjunct-index past_end c.loop-disjunct-test.true c.in_ok-check_disjunct.ensures
 
-pub returns-in-err-check-disjunct : goal.returns-in-err-check-disjunct
-returns-in-err-check-disjunct c =
-    let p = err_from_is_err_and c.from-residual.result c.from-residual.ensures.1 in
+pub returns-in_err-check_disjunct : goal.returns-in_err-check_disjunct
+returns-in_err-check_disjunct c =
+    let p = err_from_is_err_and c.from_residual.result c.from_residual.ensures.1 in
     rw (p.1, p.2)
-    (first_failed (disjunct_checks c.args.day) c.args.disjuncts.now c.loop-disjunct.disjunct-index past_end c.loop-disjunct-test.true _ c.in-err-check-disjunct.ensures
+    (first_failed (disjunct_checks c.args.day) c.args.disjuncts.now c.loop-disjunct.disjunct-index past_end c.loop-disjunct-test.true _ c.in_err-check_disjunct.ensures
     ∙ sym c.loop-disjunct.invariant)
 
 pub returns : goal.returns

@@ -1,4 +1,4 @@
-use Rattle.std.proofs.Common.{◌≡◌, true, length, vec_items, vec_len, sym, refl, subst, arith, rules}
+use Rattle.std.proofs.Common.{◌≡◌, true, length, vec_items, vec_len, sym, refl, subst, rules}
 use Rattle.std.proofs.lemmas.Bool.Decides.{nat_tests}
 use Rattle.std.specs.List.{flat_map}
 use Rattle.problem.specs.Checks.{passes, rule_checks}
@@ -11,12 +11,11 @@ returns-then-number-len c =
     let count : length (rules_of c.args.self.now) ≡ vec_len c.args.self.now.rules = rules_count c.args.self.now in
     search (rules, nat_tests)
 
-pub invariant-of-self : goal.invariant-of-self
-invariant-of-self c =
+pub invariant_of-self-clause-fit : goal.invariant_of-self-clause-fit
+invariant_of-self-clause-fit c =
     let p = c.args.self.now in
     let said = rules_removed (vec_items p.rules) _ c.args.number c.remove.ensures.items in
-    let fit = subst (λ rs. passes (flat_map (rule_checks p.day) rs) ≡ true) (sym said) (passes_removed (rule_checks p.day) (rules_of p) c.args.number p.fit) in
-    (omega arith, (omega arith, (fit, tt)))
+    subst (λ rs. passes (flat_map (rule_checks p.day) rs) ≡ true) (sym said) (passes_removed (rule_checks p.day) (rules_of p) c.args.number p.fit)
 
 pub returns : goal.returns
 returns c =

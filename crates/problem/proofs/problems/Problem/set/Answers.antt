@@ -6,16 +6,16 @@ use Rattle.problem.specs.Problems.{rules_of}
 use Rattle.problem.proofs.Said.{rules_count, rules_none}
 use Rattle.problem.proofs.problems.Problem.set.Goals as goal
 
-pub returns-then-not-is-empty : goal.returns-then-not-is-empty
-returns-then-not-is-empty c =
+pub returns-then-not-is_empty : goal.returns-then-not-is_empty
+returns-then-not-is_empty c =
     let count : length (rules_of c.args.self.now) ≡ vec_len c.args.self.now.rules = rules_count c.args.self.now in
     search (rules, nat_tests)
 
-pub invariant-of-self : goal.invariant-of-self
-invariant-of-self c =
+pub invariant_of-self-clause-fit : goal.invariant_of-self-clause-fit
+invariant_of-self-clause-fit c =
     let p = c.args.self.now in
     let none : vec_len p.rules ≡ 0 = grind (arith, nat_tests) in
-    (p.room, (p.few, (passes_none (rule_checks c.in-ok-day.day) (rules_of p) (rules_none p none), tt)))
+    passes_none (rule_checks c.in_ok-day.day) (rules_of p) (rules_none p none)
 
 pub returns : goal.returns
 returns c =
