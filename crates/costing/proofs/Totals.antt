@@ -1,12 +1,12 @@
 -- What rules cost together, one rule after another, and that it is one cost.
-use Rattle.std.proofs.Common.{◌≡◌, ℕ, ◌+◌, ◌<◌, ◌⊎◌, List, [], ◌∷◌, ◌++◌, map, length, get_or, take, fold, sym, refl, ap, ◌∙◌, subst, subst₂, inl, inr, arith}
+use Rattle.std.proofs.Common.{◌≡◌, ℕ, ◌+◌, ◌<◌, List, [], ◌∷◌, ◌++◌, map, length, get_or, take, fold, sym, refl, ap, ◌∙◌, subst, arith}
 use Rattle.std.specs.List.{HoldsAt, AllByRecursion as All}
 use Rattle.std.proofs.ByRecursion.{All-get_or}
 use Rattle.std.proofs.lemmas.List.{length-map, get_or-map, map_more, take-map}
 use Rattle.std.proofs.lemmas.List.Sums.{fold_push}
 use Rattle.counting.specs.Ways.{Way, AtMost, Laws}
 use Rattle.problem.specs.Costs.{choice_cost, Least, RuleCost, Costs, Pairwise}
-use Rattle.problem.specs.Timetables.{Choice, option, give_up, giving_up, choices, Meets, Chosen, Any, Satisfies, Allowed}
+use Rattle.problem.specs.Timetables.{Choice, option, giving_up, choices, Meets, Chosen, Satisfies, Allowed}
 use Rattle.problem.specs.Rules.{Rule, rule_of}
 use Rattle.problem.specs.declared.constraint.Constraint.{Constraint}
 use Rattle.problem.specs.declared.constraint.Disjunct.{Disjunct}

@@ -3,7 +3,6 @@ use Rattle.std.proofs.Common.{◌≡◌, ℕ, ◌<◌, ◌≤◌, min, List, [],
 use Rattle.std.proofs.ByRecursion.{All-weaker, All-get_or, All-from_get_or, all_shuffled}
 use Rattle.std.proofs.lemmas.Int.{ints}
 use Rattle.std.specs.List.{AllByRecursion as All}
-use Rattle.problem.specs.declared.day.Day.{Day}
 use Rattle.network.specs.Laws.{MinimumSolves, SmallestSolve, OrderIsFree, ShorterSolvable}
 use Rattle.network.specs.Limits.{Lawful, Keeps}
 use Rattle.network.specs.Prefixes.{nowhere}

@@ -1,14 +1,13 @@
 -- Selections and timetables: what a timetable meets, and what it costs.
-use Rattle.std.proofs.Common.{◌≡◌, ℕ, zero, suc, ◌<◌, ◌≤◌, Bool, true, false, ◌⊎◌, List, [], ◌∷◌, ◌++◌, map, length, get_or, take, ℤ, ◌≤ℤ◌, ◌<ℤ◌, Some, None, fold, Option, sym, refl, ap, ◌∙◌, subst, ap₂, subst₂, inl, inr, suc-le-suc, zero-le, le_refl, le_of_suc-le-suc, arith}
+use Rattle.std.proofs.Common.{◌≡◌, ℕ, zero, suc, ◌<◌, ◌⊎◌, List, [], ◌∷◌, ◌++◌, map, length, get_or, take, ◌≤ℤ◌, ◌<ℤ◌, Some, None, fold, Option, sym, refl, ap, ◌∙◌, subst, ap₂, inl, inr, suc-le-suc, zero-le, le_of_suc-le-suc, arith}
 use Rattle.std.specs.List.{AllByRecursion as All}
 use Rattle.std.proofs.ByRecursion.{All-take, All-get_or}
-use Rattle.std.proofs.lemmas.List.{append_assoc, append-nil, take-map, take_all}
+use Rattle.std.proofs.lemmas.List.{append_assoc, append-nil, take-map}
 use Rattle.std.proofs.lemmas.Int.{ints, by_lt_z}
 use Rattle.counting.specs.Ways.{Way, AtMost, Laws}
-use Rattle.problem.specs.Costs.{Pairwise, choice_cost, Least, RuleCost, Costs}
+use Rattle.problem.specs.Costs.{Pairwise, choice_cost, RuleCost, Costs}
 use Rattle.problem.specs.Rules.{Rule}
-use Rattle.problem.specs.Timetables.{OfDay, Choice, option, give_up, choices, gap, Meets, Chosen, Any, Satisfies, Allowed}
-use Rattle.problem.specs.declared.constraint.Disjunct.{Disjunct}
+use Rattle.problem.specs.Timetables.{Choice, option, give_up, choices, gap, Chosen, Any, Satisfies, Allowed}
 use Rattle.problem.specs.declared.day.Day.{Day}
 use Rattle.costing.specs.Cheapest.{lesser, Cheapest}
 use Rattle.costing.proofs.Cheaper.{cheapest_met, cheapest_unmet, some_of_all, some_const}

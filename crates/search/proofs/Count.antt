@@ -1,5 +1,5 @@
 -- Each step settles one selection more, so there are no more steps than selections.
-use Rattle.std.proofs.Common.{◌≡◌, ℕ, zero, suc, ◌+◌, ◌*◌, ◌<◌, ◌≤◌, Bool, true, false, cond, ◌⊎◌, List, [], ◌∷◌, length, take, sym, refl, subst, inl, inr, zero-le, le_trans, le_refl, le_of_suc-le-suc, not-suc-le-zero, add-le-add, suc-mul, eq-or-lt_of_le, arith}
+use Rattle.std.proofs.Common.{◌≡◌, ℕ, zero, suc, ◌+◌, ◌*◌, ◌<◌, ◌≤◌, Bool, true, false, List, [], ◌∷◌, length, refl, subst, inl, inr, zero-le, le_trans, le_refl, le_of_suc-le-suc, not-suc-le-zero, add-le-add, suc-mul, eq-or-lt_of_le, arith}
 use native.Mathlib.Nat.{suc_inj}
 use Rattle.std.proofs.lemmas.Bool.{both_ways}
 use Rattle.counting.specs.Ways.{Way}

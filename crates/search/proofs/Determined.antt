@@ -1,12 +1,12 @@
 -- A search has one course: after as many steps, two searches have settled the same and keep the same.
-use Rattle.std.proofs.Common.{◌≡◌, ℕ, zero, suc, ◌<◌, ◌≤◌, Bool, true, false, ◌⊎◌, ◌↔◌, List, [], ◌∷◌, length, take, Option, sym, refl, ap, ◌∙◌, subst, ap₂, inl, inr}
+use Rattle.std.proofs.Common.{◌≡◌, ℕ, zero, suc, ◌<◌, Bool, true, false, ◌⊎◌, List, [], ◌∷◌, take, sym, refl, ◌∙◌, subst, ap₂, inl, inr}
 use mathlib.Core.Path.{subst⁻¹}
 use Rattle.std.proofs.lemmas.Bool.{both_ways, cases_order}
 use Rattle.counting.specs.Ways.{Way}
 use Rattle.problem.specs.Rules.{Rule}
 use Rattle.problem.specs.declared.day.Day.{Day}
 use Rattle.search.specs.Selections.{Selection, Before}
-use Rattle.search.specs.Searches.{State, Settled, Outdone, Hopeless, Hopeful, First, Settles, Skips, Keeps, Step, After}
+use Rattle.search.specs.Searches.{State, Outdone, Hopeless, Hopeful, First, Settles, Skips, Keeps, Step, After}
 use Rattle.search.specs.Theorems.{Same}
 
 -- equal, or one before the other

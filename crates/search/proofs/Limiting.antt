@@ -1,14 +1,14 @@
 -- A timetable meets a prefix exactly if it solves the network of its limits, and these limits are lawful where the rules fit.
-use Rattle.std.proofs.Common.{◌≡◌, ℕ, zero, suc, ◌<◌, ◌≤◌, Bool, true, false, not, ◌&&◌, eqb, ltb, ◌⊎◌, List, [], ◌∷◌, ◌++◌, map, length, get_or, ℤ, pos, ◌-ℤ◌, neg_ℤ, ◌≤ℤ◌, sym, refl, ap, ◌∙◌, subst, ap₂, inl, inr, arith}
+use Rattle.std.proofs.Common.{◌≡◌, ℕ, zero, suc, ◌<◌, true, ltb, List, [], ◌∷◌, ◌++◌, map, length, get_or, ℤ, pos, ◌-ℤ◌, neg_ℤ, ◌≤ℤ◌, sym, subst, ap₂, arith}
 use lib.Signed.{le_z}
 use Rattle.std.specs.List.{flat_map, AllByRecursion as All}
-use Rattle.std.proofs.ByRecursion.{All-append, All-weaker, All-map, All-get_or}
+use Rattle.std.proofs.ByRecursion.{All-append, All-map, All-get_or}
 use Rattle.std.proofs.lemmas.Int.{ints}
-use Rattle.std.proofs.lemmas.Bool.{and_parts, and_from, ltb-true, lt-ltb, not-true, not_from_false, eqb-false, ne_eqb}
+use Rattle.std.proofs.lemmas.Bool.{and_parts, and_from, ltb-true, not-true, not_from_false, eqb-false, ne_eqb}
 use Rattle.problem.specs.Bounds.{max_bound}
 use Rattle.problem.specs.Checks.{passes, rule_checks, disjunct_checks, kind_checks, two_events, in_range}
 use Rattle.problem.specs.Rules.{Rule}
-use Rattle.problem.specs.Timetables.{OfDay, Choice, option, give_up, giving_up, choices, gap, Meets, Chosen}
+use Rattle.problem.specs.Timetables.{Choice, option, give_up, giving_up, choices, gap, Chosen}
 use Rattle.problem.specs.declared.constraint.Disjunct.{Disjunct}
 use Rattle.problem.specs.declared.constraint.Kind.{Kind}
 use Rattle.problem.specs.declared.constraint.Kind.TheVariants.{Firm, Wish}

@@ -1,10 +1,10 @@
 -- The states that steps lead to.
-use Rattle.std.proofs.Common.{◌≡◌, ℕ, ◌<◌, ◌≤◌, Bool, true, false, ◌&&◌, ◌||◌, ◌⊎◌, ◌↔◌, List, [], ◌∷◌, length, take, Some, refl, subst, ap₂, inl, inr}
+use Rattle.std.proofs.Common.{◌≡◌, ℕ, ◌<◌, ◌≤◌, Bool, true, ◌||◌, ◌⊎◌, ◌↔◌, List, length, take, refl, subst, inl, inr}
 use Rattle.std.proofs.lemmas.Bool.{or_cases, or_left, or_right}
 use Rattle.counting.specs.Ways.{Way}
 use Rattle.problem.specs.Rules.{Rule}
 use Rattle.problem.specs.declared.day.Day.{Day}
-use Rattle.search.specs.Searches.{State, Settled, Hopeless, Hopeful, Skips, Keeps}
+use Rattle.search.specs.Searches.{State, Hopeless, Hopeful, Skips, Keeps}
 use Rattle.search.specs.Tests.{same_numbers, skipped, taken}
 use Rattle.search.proofs.Testing.{same_numbers_equal, same_numbers_self}
 

@@ -1,5 +1,5 @@
 -- What an ended search says of all timetables.
-use Rattle.std.proofs.Common.{◌≡◌, ℕ, ◌↔◌, List, Some, None, Option, sym, refl, subst}
+use Rattle.std.proofs.Common.{◌≡◌, ℕ, List, Some, None, Option, refl}
 use Rattle.counting.specs.Ways.{Way, Laws}
 use Rattle.problem.specs.Rules.{Rule}
 use Rattle.problem.specs.declared.day.Day.{Day}

@@ -6,8 +6,8 @@ use Rattle.counting.specs.Ways.{Way}
 use Rattle.problem.specs.Rules.{Rule}
 use Rattle.problem.specs.Timetables.{choices}
 use Rattle.problem.specs.declared.day.Day.{Day}
-use Rattle.search.specs.Selections.{Selection, selections, Before, Fit, Feasible, price}
-use Rattle.search.specs.Searches.{State, Settled, Outdone, Hopeless, Hopeful, First, Step, After, Running, Ended}
+use Rattle.search.specs.Selections.{Selection, selections, Before, Fit, price}
+use Rattle.search.specs.Searches.{State, Outdone, Hopeless, Hopeful, First, Step, After, Running, Ended}
 use Rattle.search.proofs.Count.{bound}
 use Rattle.search.specs.Tests.{skipped, taken}
 use Rattle.search.proofs.Moves.{skips, keeps}

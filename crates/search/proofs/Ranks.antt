@@ -1,5 +1,5 @@
 -- Costs by rank: what follows where joining keeps its laws only up to costs that are at most each other.
-use Rattle.std.proofs.Common.{◌≡◌, ℕ, zero, suc, ◌⊎◌, List, [], ◌∷◌, take, fold, sym, refl, subst, inl, inr}
+use Rattle.std.proofs.Common.{◌≡◌, ℕ, zero, suc, ◌⊎◌, List, [], ◌∷◌, take, fold, subst, inl, inr}
 use Rattle.counting.specs.Ways.{Way, AtMost, Laws}
 use Rattle.problem.specs.Costs.{Pairwise}
 

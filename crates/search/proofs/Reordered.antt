@@ -1,16 +1,15 @@
 -- Rules in another order: what a timetable costs, and the ends of two searches.
-use Rattle.std.proofs.Common.{◌≡◌, ℕ, zero, suc, ◌<◌, List, [], ◌∷◌, length, get_or, set, Some, None, fold, Option, sym, refl, ap, ◌∙◌, subst, le_of_suc-le-suc, arith}
-use mathlib.Core.Path.{subst⁻¹}
+use Rattle.std.proofs.Common.{◌≡◌, ℕ, zero, suc, ◌<◌, List, [], ◌∷◌, length, get_or, set, Some, None, fold, Option, refl, subst, le_of_suc-le-suc, arith}
 use Rattle.std.specs.List.Sorted.{IsPermutation}
-use Rattle.std.specs.List.{swap as exchanged, AllByRecursion as All}
+use Rattle.std.specs.List.{swap as exchanged}
 use Rattle.std.proofs.lemmas.List.Sorted.{IsPermutation-keeps, IsPermutation-sym}
 use Rattle.std.proofs.ByRecursion.{all_shuffled}
 use Rattle.counting.specs.Ways.{Way, AtMost, Laws}
 use Rattle.problem.specs.Costs.{Pairwise, RuleCost, Costs}
 use Rattle.problem.specs.Rules.{Rule}
-use Rattle.problem.specs.Timetables.{Satisfies, Allowed}
+use Rattle.problem.specs.Timetables.{Satisfies}
 use Rattle.problem.specs.declared.day.Day.{Day}
-use Rattle.search.specs.Selections.{Selection, Feasible, price}
+use Rattle.search.specs.Selections.{price}
 use Rattle.search.specs.Searches.{State, After, Ended}
 use Rattle.search.specs.Theorems.{Agree}
 use Rattle.search.proofs.Ranks.{Ranked, ranked, Alike, self, join_at_most}

@@ -1,11 +1,10 @@
 -- Which prefixes are feasible can be told, and the smallest minutes of a feasible one meet it together.
-use Rattle.std.proofs.Common.{◌≡◌, ℕ, zero, suc, ◌<◌, ◌≤◌, ◌⊎◌, List, [], ◌∷◌, sym, refl, ap, ◌∙◌, subst, inl, inr, le_trans, le_refl, arith}
+use Rattle.std.proofs.Common.{ℕ, suc, ◌<◌, ◌≤◌, ◌⊎◌, List, [], ◌∷◌, subst, inl, inr, le_refl, arith}
 use Rattle.std.specs.List.{AllByRecursion as All}
-use Rattle.std.proofs.lemmas.Bool.{cases_lt, cases_eq}
+use Rattle.std.proofs.lemmas.Bool.{cases_lt}
 use Rattle.problem.specs.Rules.{Rule}
-use Rattle.problem.specs.Timetables.{OfDay, Choice, Chosen}
+use Rattle.problem.specs.Timetables.{Choice, Chosen}
 use Rattle.problem.specs.declared.day.Day.{Day}
-use Rattle.network.specs.Nets.{Earliest}
 use Rattle.network.proofs.Solutions.{smallest_solve}
 use Rattle.search.specs.Selections.{picked, Fit, Met, Feasible}
 use Rattle.search.specs.Limiting.{prefix_net}

@@ -1,16 +1,15 @@
 -- What every step keeps true, and what it says at the end.
-use Rattle.std.proofs.Common.{◌≡◌, ℕ, zero, suc, ◌<◌, ◌≤◌, Bool, true, false, ◌⊎◌, List, [], ◌∷◌, length, take, Some, None, Option, sym, refl, ap, ◌∙◌, subst, inl, inr, le_refl}
+use Rattle.std.proofs.Common.{◌≡◌, ℕ, zero, suc, List, length, take, Some, None, Option, subst, inl, inr, le_refl}
 use mathlib.Core.Path.{subst⁻¹}
-use Rattle.std.specs.List.{AllByRecursion as All}
 use Rattle.std.proofs.lemmas.List.{take_all}
 use Rattle.std.proofs.lemmas.Bool.{both_ways}
 use Rattle.counting.specs.Ways.{Way, AtMost, Laws}
 use Rattle.problem.specs.Costs.{Costs}
 use Rattle.problem.specs.Rules.{Rule}
-use Rattle.problem.specs.Timetables.{OfDay, Allowed, Chosen}
+use Rattle.problem.specs.Timetables.{OfDay}
 use Rattle.problem.specs.declared.day.Day.{Day}
-use Rattle.search.specs.Selections.{Selection, picked, Met, Feasible, price}
-use Rattle.search.specs.Searches.{State, Settled, Outdone, Hopeless, Hopeful, Settles, Skips, Keeps, Step, Start, After, Ended}
+use Rattle.search.specs.Selections.{Selection, Met, Feasible, price}
+use Rattle.search.specs.Searches.{State, Settled, Outdone, Hopeless, Hopeful, Skips, Keeps, Step, After, Ended}
 use Rattle.search.specs.Theorems.{NoCheaper, NoneAllowed}
 use Rattle.search.proofs.Ranks.{Alike, Ranked, ranked, self}
 use Rattle.search.proofs.Choosing.{feasible_take, price_take, allowed_selects, selected_allowed, costs_selects, costs_lowest, allowed_costs}

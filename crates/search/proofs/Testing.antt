@@ -1,9 +1,9 @@
 -- The tests of a search say what its words say.
-use Rattle.std.proofs.Common.{◌≡◌, ℕ, Bool, true, false, ◌&&◌, ◌||◌, eqb, ltb, ◌⊎◌, List, [], ◌∷◌, length, ℤ, ◌≤ℤ◌, refl, subst, ap₂, inl, inr, arith}
+use Rattle.std.proofs.Common.{◌≡◌, ℕ, Bool, true, false, eqb, ltb, List, [], ◌∷◌, length, ℤ, ◌≤ℤ◌, refl, ap₂, inl, inr, arith}
 use lib.Signed.{le_z}
 use Rattle.std.specs.List.{AllByRecursion as All}
 use Rattle.std.proofs.lemmas.Int.{ints}
-use Rattle.std.proofs.lemmas.Bool.{and_parts, and_from, or_cases, or_left, or_right, eqb-true, eq-eqb, ltb-true, lt-ltb, both_ways}
+use Rattle.std.proofs.lemmas.Bool.{and_parts, and_from, or_left, or_right, eqb-true, eq-eqb, ltb-true, lt-ltb, both_ways}
 use Rattle.problem.specs.Rules.{Rule}
 use Rattle.problem.specs.Timetables.{Choice, option, give_up, choices, gap, Chosen}
 use Rattle.search.specs.Selections.{Selection, Before}

@@ -9,7 +9,7 @@
 --   OrderDoesNotMatter   what two orders of the same rules have in common
 --   Ending                  how a search comes to its end
 --   SettledNoCheaper, EndedOptimal, StepsDetermine, OrderFree, Ends, SmallestTogether   the theorems
-use Rattle.std.specs.Prelude.{◌≡◌, ℕ, ◌<◌, ◌≤◌, ◌⊎◌, ◌↔◌, List, Some, None, Option}
+use Rattle.std.specs.Prelude.{◌≡◌, ℕ, ◌<◌, ◌≤◌, ◌↔◌, List, Some, None, Option}
 use Rattle.std.specs.List.Sorted.{IsPermutation}
 use Rattle.counting.specs.Ways.{Way, Laws, AtMost}
 use Rattle.problem.specs.Costs.{Costs}

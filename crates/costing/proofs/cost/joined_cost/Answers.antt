@@ -1,17 +1,15 @@
-use Rattle.std.proofs.Common.{map, take, arith, rules}
+use Rattle.std.proofs.Common.{arith, rules}
 use Rattle.std.proofs.lemmas.List.{take_all}
-use Rattle.problem.specs.Costs.{Costs}
-use Rattle.problem.specs.Rules.{rule_of}
 use Rattle.problem.specs.Timetables.{minute}
 use Rattle.costing.specs.Cheapest.{ReadsAll}
 use Rattle.costing.proofs.Totals.{costs_none, costs_more, all_said, first_unmet}
 use Rattle.costing.proofs.cost.joined_cost.Goals as goal
 
 pub loop-number-init : goal.loop-number-init
-loop-number-init g c = costs_none g.W.Counting.way (minute c.args.minutes.now) c.zero-cost-total.result c.zero-cost-total.ensures
+loop-number-init g c = costs_none g.W.Counting.way (minute c.args.minutes.now) c.zero_cost-total.result c.zero_cost-total.ensures
 
-pub rule-cost-requires : goal.rule-cost-requires
-rule-cost-requires g c =
+pub rule_cost-requires : goal.rule_cost-requires
+rule_cost-requires g c =
     record {
       reads = all_said (ReadsAll c.args.minutes.now) c.args.rules.now c.loop-number.number c.index-rules-number.result c.loop-number-test.true c.index-rules-number.is c.requires.reads;
       weekly = c.requires.weekly;

@@ -1,10 +1,10 @@
-use Rattle.std.proofs.Common.{map, take, refl, ap}
+use Rattle.std.proofs.Common.{refl}
 use Rattle.std.proofs.ByRecursion.{All-get_or}
 use Rattle.std.proofs.lemmas.List.{take_all}
 use Rattle.std.proofs.lemmas.Bool.Decides.{not_from_Decides}
 use Rattle.problem.proofs.First.{past_end}
-use Rattle.problem.specs.Timetables.{minute, option}
-use Rattle.costing.specs.Cheapest.{Reads, Cheapest}
+use Rattle.problem.specs.Timetables.{minute}
+use Rattle.costing.specs.Cheapest.{Reads}
 use Rattle.costing.proofs.Cheaper.{more_met, more_unmet}
 use Rattle.costing.proofs.least.least_met.Goals as goal
 use Rattle.costing.proofs.least.least_met.Goals.{then-meets, else-meets}

@@ -5,13 +5,13 @@ use Rattle.square_network.proofs.Rows.{PlacesDone, place_stays, place_shorter}
 use Rattle.square_network.proofs.distances.shorten_row.Goals as goal
 use Rattle.square_network.proofs.distances.shorten_row.Goals.{then-through-distance, else-through-distance}
 
-pub overflow-add-through : goal.overflow-add-through
-overflow-add-through c =
+pub overflow_add-through : goal.overflow_add-through
+overflow_add-through c =
     let range = through_range c.args.day c.args.table.now c.args.limit c.requires.near c.requires.lawful c.args.i c.loop-j.j c.requires.row (omega arith) in
     omega (arith, ints)
 
-pub overflow-cast-short : goal.overflow-cast-short
-overflow-cast-short c =
+pub overflow_cast-short : goal.overflow_cast-short
+overflow_cast-short c =
     let range = through_range c.args.day c.args.table.now c.args.limit c.requires.near c.requires.lawful c.args.i c.loop-j.j c.requires.row (omega arith) in
     omega (arith, ints)
 

@@ -5,8 +5,8 @@ use Rattle.square_network.proofs.Rows.{RowsDone, row_stays, row_shorter}
 use Rattle.square_network.proofs.distances.shortened.Goals as goal
 use Rattle.square_network.proofs.distances.shortened.Goals.{then-distance-limit, else-distance-limit}
 
-pub shorten-row-requires : goal.shorten-row-requires
-shorten-row-requires c = record {
+pub shorten_row-requires : goal.shorten_row-requires
+shorten_row-requires c = record {
   size = omega arith;
   room = c.loop-i.invariant.size;
   near = c.requires.near;
@@ -26,7 +26,7 @@ loop-i-preserved c =
     let p = to_limit_range day D l c.requires.near c.requires.lawful i (omega arith) in
     elim c.if-distance-limit.branch [
       | then-distance-limit w ↦
-          subst F (sym w.short-is) (row_shorter day n c.events-i-end.ensures D l i (omega arith) c.loop-i.short c.loop-i.invariant w.shorten-row.new.short w.shorten-row.ensures)
+          subst F (sym w.short-is) (row_shorter day n c.events-i-end.ensures D l i (omega arith) c.loop-i.short c.loop-i.invariant w.shorten_row.new.short w.shorten_row.ensures)
       | else-distance-limit w ↦
           subst F (sym w.short-is) (row_stays day n c.events-i-end.ensures D l i (omega arith) c.loop-i.short c.loop-i.invariant c.requires.triangle c.requires.lawful (omega (arith, ints)))
     ]

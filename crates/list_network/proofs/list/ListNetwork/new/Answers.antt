@@ -4,7 +4,7 @@ use Rattle.list_network.specs.Held.{facts}
 use Rattle.list_network.specs.Stack.{fresh}
 use Rattle.list_network.proofs.list.ListNetwork.new.Goals as goal
 
-pub invariant-of-result : goal.invariant-of-result
-invariant-of-result c =
+pub invariant_of-result : goal.invariant_of-result
+invariant_of-result c =
     let day = c.single.result in
     (omega arith, ((refl, refl), facts day _ (replicate 64 nowhere) (replicate 65 (replicate 32 0)) (fresh day _ _ _ (omega arith) refl)))

@@ -6,12 +6,12 @@ use Rattle.square_network.specs.Tables.{held_new}
 use Rattle.square_network.specs.Fields.{fields}
 use Rattle.square_network.proofs.square.SquareNetwork.new.Goals as goal
 
-pub invariant-of-result : goal.invariant-of-result
-invariant-of-result c =
+pub invariant_of-result : goal.invariant_of-result
+invariant_of-result c =
     let day = c.single-day.result in
     let ls = replicate max_limits nowhere in
     let D = c.opened.result in
-    let Ds = vec_items c.in-ok-vec.field-0 in
-    let made = c.in-ok-vec.ensures in
-    let same : Ds ≡ replicate (max_limits + 1) D = made.items-if-clones-equal (λ E alike. clone_same D E alike.whole) in
+    let Ds = vec_items c.in_ok-vec.field-0 in
+    let made = c.in_ok-vec.ensures in
+    let same : Ds ≡ replicate (max_limits + 1) D = made.items_if_clones_equal (λ E alike. clone_same D E alike.whole) in
     (omega arith, (refl, (made.len, fields day _ ls Ds (held_new day _ ls Ds D (omega arith) same c.opened.ensures))))

@@ -5,8 +5,8 @@ use Rattle.list_network.specs.Held.{held, facts}
 use Rattle.list_network.specs.Stack.{fewer, net}
 use Rattle.list_network.proofs.list.calls.ListNetworkNetwork.pop.Goals as goal
 
-pub invariant-of-self : goal.invariant-of-self
-invariant-of-self c =
+pub invariant_of-self : goal.invariant_of-self
+invariant_of-self c =
     let s = c.args.self.now in
     (omega arith, (s.sizes, facts s.day _ s.limits s.times (fewer _ _ _ _ (held s) _ (omega arith))))
 

@@ -4,8 +4,8 @@ use Rattle.list_network.specs.Held.{facts}
 use Rattle.list_network.specs.Stack.{fresh}
 use Rattle.list_network.proofs.list.calls.ListNetworkNetwork.reset.Goals as goal
 
-pub invariant-of-self : goal.invariant-of-self
-invariant-of-self c =
+pub invariant_of-self : goal.invariant_of-self
+invariant_of-self c =
     let s = c.args.self.now in
     let times = set s.times 0 (replicate 32 0) in
     (omega arith, ((s.sizes.0, simp length-set s.sizes.1), facts _ _ s.limits times (fresh c.in-ok-self.field-0 _ s.limits times (omega arith) (get_or-set_same s.times 0 (replicate 32 0) [] (omega arith)))))

@@ -5,13 +5,13 @@ use Rattle.square_network.specs.Model.{modelled}
 use Rattle.square_network.specs.Fields.{start_range, earliest_is}
 use Rattle.square_network.proofs.square.calls.SquareNetworkNetwork.earliest.Goals as goal
 
-pub overflow-sub-result : goal.overflow-sub-result
-overflow-sub-result c =
+pub overflow_sub-result : goal.overflow_sub-result
+overflow_sub-result c =
     let range = start_range c.args.self.now c.shortest.result.now c.shortest.ensures c.args.event (omega arith) in
     omega (arith, ints)
 
-pub overflow-cast-result : goal.overflow-cast-result
-overflow-cast-result c =
+pub overflow_cast-result : goal.overflow_cast-result
+overflow_cast-result c =
     let range = start_range c.args.self.now c.shortest.result.now c.shortest.ensures c.args.event (omega arith) in
     (omega (arith, ints), omega (arith, ints))
 

@@ -8,15 +8,15 @@ use Rattle.square_network.specs.Fields.{fields, near_last, triangle_last}
 use Rattle.square_network.proofs.Pushes.{lawful, room, way_back, clashing, held_after, granted}
 use Rattle.square_network.proofs.square.calls.SquareNetworkNetwork.push.Goals as goal
 
-pub overflow-add-distance : goal.overflow-add-distance
-overflow-add-distance c =
-    let back = way_back c.args.self.now c.args.limit c.in-ok-check-limit.ensures c.shortest.result.now c.shortest.ensures in
+pub overflow_add-distance : goal.overflow_add-distance
+overflow_add-distance c =
+    let back = way_back c.args.self.now c.args.limit c.in_ok-check_limit.ensures c.shortest.result.now c.shortest.ensures in
     omega (arith, ints)
 
 pub returns-then-distance-limit-lt0 : goal.returns-then-distance-limit-lt0
 returns-then-distance-limit-lt0 c =
     let s = c.args.self.now in
-    let none = c.in-ok-check-limit.ensures in
+    let none = c.in_ok-check_limit.ensures in
     let back = way_back s c.args.limit none c.shortest.result.now c.shortest.ensures in
     let clash : Clashing (modelled s) c.args.limit Clash = clashing s c.args.limit none c.shortest.result.now c.shortest.ensures (omega (arith, ints)) in
     (inr clash, refl)
@@ -24,18 +24,18 @@ returns-then-distance-limit-lt0 c =
 pub shortened-table-requires : goal.shortened-table-requires
 shortened-table-requires c =
     let s = c.args.self.now in
-    let none = c.in-ok-check-limit.ensures in
+    let none = c.in_ok-check_limit.ensures in
     record {
       near = near_last s c.shortest-2.result.now c.shortest-2.ensures;
       triangle = triangle_last s c.shortest-2.result.now c.shortest-2.ensures;
       lawful = lawful s c.args.limit none;
     }
 
-pub invariant-of-self : goal.invariant-of-self
-invariant-of-self c =
+pub invariant_of-self : goal.invariant_of-self
+invariant_of-self c =
     let s = c.args.self.now in
     let l = c.args.limit in
-    let none = c.in-ok-check-limit.ensures in
+    let none = c.in_ok-check_limit.ensures in
     let few = room s l none in
     let back = way_back s l none c.shortest.result.now c.shortest.ensures in
     let D' = c.shortened-table.result in
@@ -45,6 +45,6 @@ invariant-of-self c =
 pub returns : goal.returns
 returns c =
     let s = c.args.self.now in
-    let none = c.in-ok-check-limit.ensures in
+    let none = c.in_ok-check_limit.ensures in
     let back = way_back s c.args.limit none c.shortest.result.now c.shortest.ensures in
     granted s c.args.limit none c.shortest.result.now c.shortest.ensures (omega (arith, ints)) c.shortest-2.result.now c.shortest-2.ensures c.shortened-table.result c.shortened-table.ensures
