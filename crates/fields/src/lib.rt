@@ -1,4 +1,6 @@
 //! Canonical decimal numbers, and the fields of a line of text that commas part.
+#![tactic(auto)]
+
 mod cursor;
 mod number;
 

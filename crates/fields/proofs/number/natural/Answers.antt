@@ -8,8 +8,8 @@ returns-in-empty c = not_empty c.args.field.now (search rules)
 pub returns-in-48 : goal.returns-in-48
 returns-in-48 c = no_leading_zero c.args.field.now (search rules) (search rules)
 
-pub returns-in-default : goal.returns-in-default
-returns-in-default c = not_long c.args.field.now (search rules)
+pub returns-in_default : goal.returns-in_default
+returns-in_default c = not_long c.args.field.now (search rules)
 
-pub returns-in-default-2 : goal.returns-in-default-2
-returns-in-default-2 c = writes_read c.args.field.now c.digits.result (search rules) (search rules) (λ zero-first. search rules) c.digits.ensures
+pub returns-in_default-2 : goal.returns-in_default-2
+returns-in_default-2 c = writes_read c.args.field.now c.digits.result (search rules) (search rules) (λ zero-first. search rules) c.digits.ensures
