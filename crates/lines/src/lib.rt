@@ -1,4 +1,5 @@
 //! Lines of standard input, one after the other, in bounded memory.
+#![tactic(auto)]
 
 mod buffer;
 mod input;
