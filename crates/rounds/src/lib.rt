@@ -1,4 +1,5 @@
 //! Rounds as text: the minutes that a line states.
+#![tactic(auto)]
 
 mod reading;
 

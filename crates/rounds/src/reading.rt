@@ -65,7 +65,7 @@ mod tests {
     #[test]
     fn a_line_states_a_minute_for_each_event(rt: HostRuntime) -> Result<(), Fail> {
         let minutes = read_round(rt.alloc(), b"0,15,0")?;
-        assert_eq!(rt; minutes.as_slice(), &[0, 15, 0]);
+        assert_eq!(rt; minutes.as_slice(), [0, 15, 0].as_slice());
         Ok(())
     }
 
