@@ -21,7 +21,9 @@ impl LineBuffer {
 
     /// Adds a byte. Fails only for want of memory; the line then stays as it was.
     pub fn add(&mut self, byte: u8) -> Result<(), AllocError>
-        ensures text { MatchResult result (λ _. text_of self.new ≡ extended (text_of self.old) byte) (λ _. text_of self.new ≡ text_of self.old) }
+        ensures text { MatchResult result
+            (λ _. text_of self.new ≡ extended (text_of self.old) byte)
+            (λ _. text_of self.new ≡ text_of self.old) }
         ensures number { self.new.number ≡ self.old.number }
     {
         if self.bytes.len() < MAX_LINE {
