@@ -1,7 +1,7 @@
 -- A line read field by field.
 use Rattle.std.proofs.Common.{◌≡◌, ℕ, List, [], ◌∷◌, ◌++◌, map, length, get_or, decimal, sym, ap, ◌∙◌, subst, append_assoc, append-nil, arith, length-append}
 use lib.ListN.{length-map}
-use Rattle.std.specs.List.{AllByRecursion as All}
+use Rattle.std.specs.List.{AllByRecursion}
 use Rattle.std.proofs.ByRecursion.{All-push, All-get_or}
 use Rattle.std.proofs.lemmas.List.{map_push, get_or-map, get_or_at, get_or_append_left}
 use Rattle.fields.specs.Fields.{parts, joined}
@@ -12,7 +12,7 @@ use Rattle.rounds.specs.Round.{States, FirstFault}
 -- the minutes were read from the first fields of the line, and the others are left
 pub record Sofar (line minutes : List ℕ) (left : List (List ℕ)) : Type 0 where
   pub fields : parts line ≡ map decimal minutes ++ left
-  pub short : All Short minutes
+  pub short : AllByRecursion Short minutes
 
 -- one field more was read
 pub one_read : {line minutes field more : List ℕ} {before after : List (List ℕ)} {minute kept : ℕ} → Sofar line minutes before → before ≡ field ∷ after → Writes field minute → more ≡ minutes ++ kept ∷ [] → kept ≡ minute → Sofar line more after
@@ -25,7 +25,7 @@ one_read {line} {minutes} {field} {more} {before} {after} {minute} {kept} sofar 
           ∙ sym (append_assoc (map decimal minutes) (decimal minute ∷ []) after)
           ∙ ap (λ ws. ws ++ after) (sym (map_push decimal minutes minute))
           ∙ ap (λ ms. map decimal ms ++ after) (sym pushed);
-      short = subst (All Short) (sym pushed) (All-push Short minutes minute sofar.short writes.short);
+      short = subst (AllByRecursion Short) (sym pushed) (All-push Short minutes minute sofar.short writes.short);
     }
 
 -- all fields were read

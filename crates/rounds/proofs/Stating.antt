@@ -1,7 +1,7 @@
 -- What a line states: one round, or none where a field writes no number.
 use Rattle.std.proofs.Common.{◌≡◌, ℕ, ◌<◌, List, [], ◌∷◌, map, length, get_or, decimal, sym, refl, ap, ◌∙◌, arith}
 use lib.ListN.{length-map}
-use Rattle.std.specs.List.{AllByRecursion as All}
+use Rattle.std.specs.List.{AllByRecursion}
 use Rattle.std.proofs.lemmas.Fmt.{decimal_is_IsNumeral, decimal_injective}
 use Rattle.std.proofs.ByRecursion.{All-get_or, All-weaker, All-map}
 use Rattle.std.proofs.lemmas.List.{get_or-map}
@@ -21,7 +21,7 @@ stated_parts line minutes h =
     ap parts h.text
     ∙ parts_joined (map decimal minutes) (omega (arith, h.some, length-map minutes decimal)) (All-map Whole decimal minutes (All-weaker Short (λ m. Whole (decimal m)) decimal_whole minutes h.short))
 
-same_from_decimals : (these those : List ℕ) → All Short these → All Short those → map decimal these ≡ map decimal those → these ≡ those
+same_from_decimals : (these those : List ℕ) → AllByRecursion Short these → AllByRecursion Short those → map decimal these ≡ map decimal those → these ≡ those
 same_from_decimals [] [] hs ks e = refl
 same_from_decimals [] (n ∷ ns) hs ks e = cc
 same_from_decimals (m ∷ ms) [] hs ks e = cc

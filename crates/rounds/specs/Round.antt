@@ -7,7 +7,7 @@
 -- OneRound    no two lists of minutes are stated by one line
 -- NoRound     a line with a first fault states no minutes
 use Rattle.std.specs.Prelude.{◌≡◌, ℕ, ◌<◌, List, [], map, length, decimal, slice_index_or}
-use Rattle.std.specs.List.{AllByRecursion as All}
+use Rattle.std.specs.List.{AllByRecursion}
 use Rattle.fields.specs.Fields.{parts, joined}
 use Rattle.fields.specs.Numbers.{Short, Writes}
 use Rattle.rounds.specs.declared.reading.RoundFault.{RoundFault}
@@ -21,7 +21,7 @@ roundText minutes = joined (map decimal minutes)
 pub record States (line minutes : List ℕ) : Type 0 where
   pub text : line ≡ roundText minutes
   pub some : 0 < length minutes
-  pub short : All Short minutes
+  pub short : AllByRecursion Short minutes
 
 -- the line has a field for the event, which writes no number, and each field before it writes one
 pub record FirstFault (line : List ℕ) (event : ℕ) : Type 0 where
