@@ -1,6 +1,6 @@
 -- What a chain of limits says of every timetable.
 use Rattle.std.proofs.Common.{◌≡◌, ℕ, ◌<◌, ◌≤◌, ◌⊎◌, List, [], ◌∷◌, ℤ, pos, ◌+ℤ◌, ◌-ℤ◌, ◌≤ℤ◌, ◌<ℤ◌, sym, refl, ap, subst, subst₂, inl, inr, arith}
-use Rattle.std.specs.List.{ContainsAt as Has, AllByRecursion as All}
+use Rattle.std.specs.List.{ContainsAt, AllByRecursion}
 use Rattle.std.proofs.ByRecursion.{all-has, All-weaker}
 use Rattle.std.proofs.lemmas.Int.{ints}
 use Rattle.problem.specs.Timetables.{OfDay, gap}
@@ -28,7 +28,7 @@ module _ (day : Day) (ls : List Limit) (T : ℕ → ℕ) (solves : Solves (recor
   keeps_stated l (inr (i, b, inr e)) = subst (Keeps T) (sym e) (keeps_start i)
 
   -- from one end of a chain to the other is at most its total
-  pub chain_total : (a b : ℕ) (chain : List Limit) → All (Stated day ls) chain → Chain a b chain → gap T b a ≤ℤ total chain
+  pub chain_total : (a b : ℕ) (chain : List Limit) → AllByRecursion (Stated day ls) chain → Chain a b chain → gap T b a ≤ℤ total chain
   chain_total a b [] s c =
       let same : T a ≡ T b = ap T c in
       omega (arith, ints)

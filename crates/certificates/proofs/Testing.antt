@@ -1,7 +1,7 @@
 -- What the tests of certificates say.
 use Rattle.std.proofs.Common.{◌≡◌, ℕ, zero, suc, ◌+◌, ◌-◌, ◌<◌, ◌≤◌, Bool, true, false, not, ◌&&◌, ◌||◌, eqb, ltb, leb, ◌⊎◌, List, [], ◌∷◌, ◌++◌, map, length, get_or, ℤ, pos, ◌≤ℤ◌, ◌<ℤ◌, sym, refl, ap, subst, ap₂, inl, inr, suc-le-suc, zero-le, le_refl, le_of_suc-le-suc, arith}
 use lib.Signed.{le_z, lt_z}
-use Rattle.std.specs.List.{range_with_len, ContainsAt as Has, flat_map, AllByRecursion as All}
+use Rattle.std.specs.List.{range_with_len, ContainsAt, flat_map, AllByRecursion}
 use Rattle.std.proofs.lemmas.Int.{ints}
 use Rattle.std.proofs.lemmas.Bool.{and_parts, or_cases, or_right, or_left, both_ways, ltb-true, leb-true, eqb-true, lt-ltb, eq-eqb, and_from, cases_eq}
 use Rattle.problem.specs.Rules.{Rule}
@@ -54,7 +54,7 @@ below_each (suc k) p h i l =
     elim (cases_eq i k) [ inl e ↦ subst (λ n. p n ≡ true) (sym e) q.0 | inr n ↦ below_each k p q.1 i (omega arith) ]
 
 -- minutes past the list are 0
-within : (h : ℕ) (ms : List ℕ) → All (λ m. leb m h ≡ true) ms → (i : ℕ) → minute ms i ≤ h
+within : (h : ℕ) (ms : List ℕ) → AllByRecursion (λ m. leb m h ≡ true) ms → (i : ℕ) → minute ms i ≤ h
 within h [] a i = zero-le
 within h (m ∷ ms) a zero = leb-true m h a.0
 within h (m ∷ ms) a (suc i) = within h ms a.1 i
@@ -83,7 +83,7 @@ same_limit_true l k h =
     let b = equal_true _ _ r.1 in
     λ i. record { x = x i; y = y i; bound = b i }
 
-among_has : (ls : List Limit) (l : Limit) → among ls l ≡ true → Has ls l
+among_has : (ls : List Limit) (l : Limit) → among ls l ≡ true → ContainsAt ls l
 among_has [] l h = absurd (both_ways false refl h)
 among_has (k ∷ ks) l h =
     elim (or_cases (same_limit k l) (among ks l) h) [
@@ -101,7 +101,7 @@ stated_true day ls l h =
       ])
     ]
 
-pub all_stated : (day : Day) (ls ring : List Limit) → every (stated day ls) ring ≡ true → All (Stated day ls) ring
+pub all_stated : (day : Day) (ls ring : List Limit) → every (stated day ls) ring ≡ true → AllByRecursion (Stated day ls) ring
 all_stated day ls [] h = tt
 all_stated day ls (l ∷ ring) h = let q = and_parts (stated day ls l) _ h in (stated_true day ls l q.0, all_stated day ls ring q.1)
 

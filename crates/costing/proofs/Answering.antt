@@ -1,6 +1,6 @@
 -- What a timetable of a problem's day may be read for, and the answers that its rules give.
 use Rattle.std.proofs.Common.{◌≡◌, ℕ, ◌<◌, List, length, get_or, take, sym, subst, arith}
-use Rattle.std.specs.List.{HoldsAt, AllByRecursion as All}
+use Rattle.std.specs.List.{HoldsAt, AllByRecursion}
 use Rattle.std.proofs.ByRecursion.{All-weaker}
 use Rattle.counting.specs.Ways.{Way, Laws}
 use Rattle.problem.specs.Costs.{Costs}
@@ -19,14 +19,14 @@ module _ (p : Problem) (ms : List ℕ) where
   timetable_of day e h = subst (λ d. (length ms ≡ d.events) × OfDay d (minute ms)) e h
 
 module _ (p : Problem) (ms : List ℕ) (t : Timetable p ms) where
-  reads_fit : (r : Rule) → All (OfEvents p.day) r.options → ReadsAll ms r
+  reads_fit : (r : Rule) → AllByRecursion (OfEvents p.day) r.options → ReadsAll ms r
   reads_fit r = All-weaker (OfEvents p.day) (Reads ms) (λ d h. (omega (arith, t.0), omega (arith, t.0))) r.options
 
   -- every event that a rule names has a minute
-  pub timetable_reads : (rs : List Rule) → rs ≡ rules_of p → All (ReadsAll ms) rs
+  pub timetable_reads : (rs : List Rule) → rs ≡ rules_of p → AllByRecursion (ReadsAll ms) rs
   timetable_reads rs e =
-      subst (All (ReadsAll ms)) (sym e)
-      (All-weaker (λ r. All (OfEvents p.day) r.options) (ReadsAll ms) reads_fit (rules_of p) (rules_fit p.day (rules_of p) p.fit))
+      subst (AllByRecursion (ReadsAll ms)) (sym e)
+      (All-weaker (λ r. AllByRecursion (OfEvents p.day) r.options) (ReadsAll ms) reads_fit (rules_of p) (rules_fit p.day (rules_of p) p.fit))
 
   pub timetable_weekly : WithinWeek ms
   timetable_weekly i l = omega (arith, t.1.1 i (omega (arith, t.0)), p.day.week)
@@ -42,10 +42,10 @@ module _ (p : Problem) (ms : List ℕ) (t : Timetable p ms) where
       }
 
   pub answers_rule : (rs : List Rule) (i k : ℕ) → i ≡ k → rs ≡ rules_of p
-      → (i < length rs) × All (Satisfies (minute ms)) (take i rs) × HoldsAt (λ r. Unmet (minute ms) (choices r)) rs i → ForbiddenBy p ms k
+      → (i < length rs) × AllByRecursion (Satisfies (minute ms)) (take i rs) × HoldsAt (λ r. Unmet (minute ms) (choices r)) rs i → ForbiddenBy p ms k
   answers_rule rs i k n e h =
-      let P : List Rule → Type 0 = λ xs. (k < length xs) × All (Satisfies (minute ms)) (take k xs) × HoldsAt (λ r. Unmet (minute ms) (choices r)) xs k in
-      let Q : ℕ → Type 0 = λ j. (j < length rs) × All (Satisfies (minute ms)) (take j rs) × HoldsAt (λ r. Unmet (minute ms) (choices r)) rs j in
+      let P : List Rule → Type 0 = λ xs. (k < length xs) × AllByRecursion (Satisfies (minute ms)) (take k xs) × HoldsAt (λ r. Unmet (minute ms) (choices r)) xs k in
+      let Q : ℕ → Type 0 = λ j. (j < length rs) × AllByRecursion (Satisfies (minute ms)) (take j rs) × HoldsAt (λ r. Unmet (minute ms) (choices r)) rs j in
       let m : P (rules_of p) = subst P e (subst Q n h) in
       record {
         timetable = t;

@@ -3,7 +3,7 @@ use Rattle.std.proofs.Common.{◌≡◌, ℕ, ◌+◌, ◌<◌, Bool, true, fals
 use Rattle.std.proofs.ByRecursion.{All-push, All-weaker}
 use Rattle.std.proofs.lemmas.List.{map_more}
 use Rattle.std.proofs.lemmas.Bool.{false≢true}
-use Rattle.std.specs.List.{AllByRecursion as All}
+use Rattle.std.specs.List.{AllByRecursion}
 use Rattle.counting.specs.Ways.{Way, AtMost, Laws}
 use Rattle.counting.specs.declared.penalty.Penalty.{Penalty}
 use Rattle.problem.specs.Costs.{choice_cost, Least}
@@ -24,7 +24,7 @@ module _ {X : Type 0} (P : X → Type 0) where
   some_last (y ∷ ys) x h = inr (some_last ys x h)
 
   -- some element and every element meet
-  pub some_of_all : {Q R : X → Type 0} → ((x : X) → P x → Q x → R x) → (xs : List X) → Any P xs → All Q xs → Any R xs
+  pub some_of_all : {Q R : X → Type 0} → ((x : X) → P x → Q x → R x) → (xs : List X) → Any P xs → AllByRecursion Q xs → Any R xs
   some_of_all f [] h k = h
   some_of_all f (x ∷ xs) (inl h) k = inl (f x h k.0)
   some_of_all f (x ∷ xs) (inr h) k = inr (some_of_all f xs h k.1)

@@ -1,6 +1,6 @@
 -- What rules cost together, one rule after another, and that it is one cost.
 use Rattle.std.proofs.Common.{◌≡◌, ℕ, ◌+◌, ◌<◌, List, [], ◌∷◌, ◌++◌, map, length, get_or, take, fold, sym, refl, ap, ◌∙◌, subst, arith}
-use Rattle.std.specs.List.{HoldsAt, AllByRecursion as All}
+use Rattle.std.specs.List.{HoldsAt, AllByRecursion}
 use Rattle.std.proofs.ByRecursion.{All-get_or}
 use Rattle.std.proofs.lemmas.List.{length-map, get_or-map, map_more, take-map}
 use Rattle.std.proofs.lemmas.List.Sums.{fold_push}
@@ -23,7 +23,7 @@ module _ {X Y : Type 0} (R : X → Y → Type 0) where
   pairwise_push (z ∷ xs) [] x y h k = absurd h
   pairwise_push (z ∷ xs) (w ∷ ys) x y h k = (h.0, pairwise_push xs ys x y h.1 k)
 
-  pairwise_all : {P : X → Type 0} → ((x : X) (y : Y) → R x y → P x) → (xs : List X) (ys : List Y) → Pairwise R xs ys → All P xs
+  pairwise_all : {P : X → Type 0} → ((x : X) (y : Y) → R x y → P x) → (xs : List X) (ys : List Y) → Pairwise R xs ys → AllByRecursion P xs
   pairwise_all f [] ys h = tt
   pairwise_all f (x ∷ xs) [] h = absurd h
   pairwise_all f (x ∷ xs) (y ∷ ys) h = (f x y h.0, pairwise_all f xs ys h.1)
@@ -75,7 +75,7 @@ module _ {C : Type 0} (way : Way C) (laws : Laws way) (T : ℕ → ℕ) where
       ∙ h.joined
 
 module _ (T : ℕ → ℕ) where
-  unmet_firm : (ds : List Disjunct) (k : Kind) → Unmet T (map option ds ++ giving_up k) → (k ≡ Firm) × All (λ d. Meets T d → ⊥) ds
+  unmet_firm : (ds : List Disjunct) (k : Kind) → Unmet T (map option ds ++ giving_up k) → (k ≡ Firm) × AllByRecursion (λ d. Meets T d → ⊥) ds
   unmet_firm [] Firm h = (refl, tt)
   unmet_firm [] (Wish p) h = absurd (h.0 tt)
   unmet_firm (d ∷ ds) k h = let t = unmet_firm ds k h.1 in (t.0, (h.0, t.1))
@@ -93,7 +93,7 @@ module _ (T : ℕ → ℕ) where
   unmet_not_allowed (r ∷ rs) k l u a = unmet_unsatisfied (get_or (r ∷ rs) k r) (u r) (All-get_or (Satisfies T) (r ∷ rs) k r l a)
 
 -- what holds of every rule holds of the one that a constraint states
-pub all_said : (P : Rule → Type 0) (cs : List Constraint) (i : ℕ) (r : Constraint) → i < length cs → r ≡ get_or cs i r → All P (map rule_of cs) → P (rule_of r)
+pub all_said : (P : Rule → Type 0) (cs : List Constraint) (i : ℕ) (r : Constraint) → i < length cs → r ≡ get_or cs i r → AllByRecursion P (map rule_of cs) → P (rule_of r)
 all_said P cs i r l e h =
     let m : i < length (map rule_of cs) = simp length-map l in
     subst P (get_or-map rule_of cs i r (rule_of r) l ∙ ap rule_of (sym e)) (All-get_or P (map rule_of cs) i (rule_of r) m h)
@@ -101,13 +101,13 @@ all_said P cs i r l e h =
 module _ {C : Type 0} (way : Way C) (T : ℕ → ℕ) where
   -- the rules before cost something, and this one, the one of number k, is not met
   pub first_unmet : (cs : List Constraint) (i : ℕ) (r : Constraint) (c : C) → i < length cs → r ≡ get_or cs i r → Costs way T (map rule_of (take i cs)) c
-      → Unmet T (choices (rule_of r)) → (k : ℕ) → i ≡ k → (k < length (map rule_of cs)) × All (Satisfies T) (take k (map rule_of cs)) × HoldsAt (λ x. Unmet T (choices x)) (map rule_of cs) k
+      → Unmet T (choices (rule_of r)) → (k : ℕ) → i ≡ k → (k < length (map rule_of cs)) × AllByRecursion (Satisfies T) (take k (map rule_of cs)) × HoldsAt (λ x. Unmet T (choices x)) (map rule_of cs) k
   first_unmet cs i r c l e h u k n =
-      let P : ℕ → Type 0 = λ j. (j < length (map rule_of cs)) × All (Satisfies T) (take j (map rule_of cs)) × HoldsAt (λ x. Unmet T (choices x)) (map rule_of cs) j in
+      let P : ℕ → Type 0 = λ j. (j < length (map rule_of cs)) × AllByRecursion (Satisfies T) (take j (map rule_of cs)) × HoldsAt (λ x. Unmet T (choices x)) (map rule_of cs) j in
       let m : i < length (map rule_of cs) = simp length-map l in
       let same : (d : Rule) → get_or (map rule_of cs) i d ≡ rule_of r = λ d. get_or-map rule_of cs i r d l ∙ ap rule_of (sym e) in
       subst P n (
         m,
-        subst (All (Satisfies T)) (sym (take-map rule_of i cs)) (costs_allowed way T (map rule_of (take i cs)) c h),
+        subst (AllByRecursion (Satisfies T)) (sym (take-map rule_of i cs)) (costs_allowed way T (map rule_of (take i cs)) c h),
         λ d. subst (λ x. Unmet T (choices x)) (sym (same d)) u,
       )

@@ -5,7 +5,7 @@
 --   ForbiddenBy   the minutes are a timetable that is not allowed, and this rule is the first that forbids it
 --   Costed        the answer
 use Rattle.std.specs.Prelude.{◌≡◌, ℕ, ◌<◌, List, length, take, Ok, Err, Result}
-use Rattle.std.specs.List.{HoldsAt, AllByRecursion as All}
+use Rattle.std.specs.List.{HoldsAt, AllByRecursion}
 use Rattle.counting.specs.Ways.{Way}
 use Rattle.problem.specs.Costs.{Costs}
 use Rattle.problem.specs.Flaws.{Flawed}
@@ -23,7 +23,7 @@ Timetable p ms = (length ms ≡ p.day.events) × OfDay p.day (minute ms)
 
 -- the rule is firm, and T meets none of its options
 abbrev pub Broken : (ℕ → ℕ) → Rule → Type 0
-Broken T r = (r.kind ≡ Firm) × All (λ d. Meets T d → ⊥) r.options
+Broken T r = (r.kind ≡ Firm) × AllByRecursion (λ d. Meets T d → ⊥) r.options
 
 -- an allowed timetable, and its one cost
 pub record Priced {C : Type 0} (way : Way C) (p : Problem) (ms : List ℕ) (c : C) : Type 0 where
@@ -36,7 +36,7 @@ pub record Priced {C : Type 0} (way : Way C) (p : Problem) (ms : List ℕ) (c : 
 pub record ForbiddenBy (p : Problem) (ms : List ℕ) (k : ℕ) : Type 0 where
   pub timetable : Timetable p ms
   pub within : k < length (rules_of p)
-  pub earlier : All (Satisfies (minute ms)) (take k (rules_of p))
+  pub earlier : AllByRecursion (Satisfies (minute ms)) (take k (rules_of p))
   pub broken : HoldsAt (Broken (minute ms)) (rules_of p) k
   pub not-allowed : Allowed (minute ms) (rules_of p) → ⊥
 

@@ -7,7 +7,7 @@
 --   Cheapest     the least cost among the choices that a timetable meets, if it meets any
 --   Totalled     what the rules cost together, or the first of which a timetable meets no choice
 use Rattle.std.specs.Prelude.{ℕ, ◌<◌, ◌≤◌, cond, List, length, take, Some, None, Ok, Err, Option, Result}
-use Rattle.std.specs.List.{HoldsAt, AllByRecursion as All}
+use Rattle.std.specs.List.{HoldsAt, AllByRecursion}
 use Rattle.counting.specs.Ways.{Way}
 use Rattle.problem.specs.Bounds.{max_horizon}
 use Rattle.problem.specs.Costs.{Least, Costs}
@@ -21,7 +21,7 @@ Reads ms d = (d.x < length ms) × (d.y < length ms)
 
 -- the events of all its options have a minute
 abbrev pub ReadsAll : List ℕ → Rule → Type 0
-ReadsAll ms r = All (Reads ms) r.options
+ReadsAll ms r = AllByRecursion (Reads ms) r.options
 
 -- each minute is at most the latest horizon
 abbrev pub WithinWeek : List ℕ → Type 0
@@ -29,7 +29,7 @@ WithinWeek ms = (i : ℕ) → i < length ms → minute ms i ≤ max_horizon
 
 -- T meets none of them
 abbrev pub Unmet : (ℕ → ℕ) → List Choice → Type 0
-Unmet T chs = All (λ ch. Chosen T ch → ⊥) chs
+Unmet T chs = AllByRecursion (λ ch. Chosen T ch → ⊥) chs
 
 module _ {C : Type 0} (way : Way C) where
   -- the first, unless the second is lower
@@ -45,4 +45,4 @@ module _ {C : Type 0} (way : Way C) where
   -- their cost, or the place of the first of which no choice is met
   abbrev pub Totalled : (ℕ → ℕ) → List Rule → Result C ℕ → Type 0
   Totalled T rules (Ok c) = Costs way T rules c
-  Totalled T rules (Err k) = (k < length rules) × All (Satisfies T) (take k rules) × HoldsAt (λ r. Unmet T (choices r)) rules k
+  Totalled T rules (Err k) = (k < length rules) × AllByRecursion (Satisfies T) (take k rules) × HoldsAt (λ r. Unmet T (choices r)) rules k

@@ -1,6 +1,6 @@
 //! The cost of a timetable: the costs of its rules, joined in rule order.
 ghost use Rattle.std.specs.Prelude.{map};
-ghost use Rattle.std.specs.List.{AllByRecursion as All};
+ghost use Rattle.std.specs.List.{AllByRecursion};
 ghost use Rattle.problem.specs.Rules.{rule_of};
 ghost use Rattle.problem.specs.Timetables.{minute};
 ghost use Rattle.costing.specs.Answers.{Costed};
@@ -21,7 +21,7 @@ pub enum Objection {
 
 /// The costs of the rules under the minutes, joined in rule order, or the first rule of which they meet no choice.
 fn joined_cost<W: Counting>(rules: &[Constraint], minutes: &[u32]) -> Result<W, usize>
-    requires reads { All (ReadsAll minutes.now) (map rule_of rules.now) }
+    requires reads { AllByRecursion (ReadsAll minutes.now) (map rule_of rules.now) }
     requires weekly { WithinWeek minutes.now }
     ensures { Totalled W.Counting.way (minute minutes.now) (map rule_of rules.now) result }
 {

@@ -1,6 +1,6 @@
 //! The cost of one rule: the least among the choices that the minutes meet.
 ghost use Rattle.std.specs.Prelude.{◌≡◌, map, Decides};
-ghost use Rattle.std.specs.List.{AllByRecursion as All};
+ghost use Rattle.std.specs.List.{AllByRecursion};
 ghost use Rattle.problem.specs.Rules.{rule_of};
 ghost use Rattle.problem.specs.Timetables.{minute, Meets, Choice, choices};
 ghost use Rattle.costing.specs.Cheapest.{Reads, ReadsAll, WithinWeek, lesser, Cheapest};
@@ -30,7 +30,7 @@ fn lesser_of<W: Counting>(kept: Option<W>, cost: W) -> W
 
 /// The least cost among the disjuncts that the minutes meet, if they meet any.
 fn least_met<W: Counting>(disjuncts: &[Disjunct], minutes: &[u32]) -> Option<W>
-    requires reads { All (Reads minutes.now) disjuncts.now }
+    requires reads { AllByRecursion (Reads minutes.now) disjuncts.now }
     requires weekly { WithinWeek minutes.now }
     ensures { Cheapest W.Counting.way (minute minutes.now) (map Choice.option disjuncts.now) result }
 {

@@ -1,6 +1,6 @@
 -- A text is its parts, joined again; and texts with no comma are the parts of what they join to.
 use Rattle.std.proofs.Common.{◌≡◌, ℕ, suc, ◌<◌, Bool, true, false, cond, eqb, List, [], ◌∷◌, ◌++◌, length, get_or, sym, refl, ap, ◌∙◌, ⊎_elim, arith}
-use Rattle.std.specs.List.{AllByRecursion as All}
+use Rattle.std.specs.List.{AllByRecursion}
 use Rattle.std.proofs.lemmas.Bool.{cases_eq, cond-true, cond-false, eq-eqb, ne_eqb}
 use Rattle.fields.specs.Fields.{comma, extend, parts, joined}
 
@@ -57,7 +57,7 @@ parts_front [] cs h = refl
 parts_front (c ∷ w) cs h = parts_other c (w ++ (comma ∷ cs)) (h 0 (omega arith)) ∙ ap (extend c) (parts_front w cs (tail_whole c w h))
 
 -- whole texts are the parts of what they join to
-pub parts_joined : (ws : List (List ℕ)) → 0 < length ws → All Whole ws → parts (joined ws) ≡ ws
+pub parts_joined : (ws : List (List ℕ)) → 0 < length ws → AllByRecursion Whole ws → parts (joined ws) ≡ ws
 parts_joined [] some h = absurd (omega arith)
 parts_joined (w ∷ []) some h = parts_one w h.0
 parts_joined (w ∷ v ∷ ws) some h = parts_front w (joined (v ∷ ws)) h.0 ∙ ap (λ l. w ∷ l) (parts_joined (v ∷ ws) (omega arith) h.1)

@@ -1,6 +1,6 @@
 -- A limit that passed its checks, put on a list network.
 use Rattle.std.proofs.Common.{◌≡◌, ℕ, ◌+◌, ◌<◌, ◌≤◌, List, [], length, get_or, take, set, None, refl, ap, ◌∙◌, subst, arith}
-use Rattle.std.specs.List.{AllByRecursion as All}
+use Rattle.std.specs.List.{AllByRecursion}
 use Rattle.std.proofs.lemmas.List.{take_more_set, length-set}
 use Rattle.problem.specs.Checks.{first_refusal}
 use Rattle.problem.specs.Timetables.{minute}
@@ -39,7 +39,7 @@ module _ (s : ListNetwork) (l : Limit) (none : None ≡ first_refusal (limit_che
   pub still_stacked : Stacked s.day s.count written s.times
   still_stacked = beyond s.day s.count s.limits s.times l room (held s) good
 
-  pub longer_lawful : All (Lawful s.day) longer
+  pub longer_lawful : AllByRecursion (Lawful s.day) longer
   longer_lawful = all_lawful s.day s.count s.limits s.times l room (held s) good
 
   -- no minutes are left

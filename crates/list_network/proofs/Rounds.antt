@@ -1,6 +1,6 @@
 -- Limits relaxed one after another, and round after round.
 use Rattle.std.proofs.Common.{◌≡◌, ℕ, ◌+◌, ◌<◌, ◌≤◌, List, [], ◌∷◌, ◌++◌, length, get_or, take, sym, refl, ◌∙◌, subst, arith}
-use Rattle.std.specs.List.{AllByRecursion as All}
+use Rattle.std.specs.List.{AllByRecursion}
 use Rattle.std.proofs.ByRecursion.{All-append, All-take}
 use Rattle.std.proofs.lemmas.List.{take_all, take_more}
 use Rattle.problem.specs.Timetables.{OfDay, minute}
@@ -12,11 +12,11 @@ use Rattle.list_network.specs.declared.relax.Outcome.{Outcome}
 use Rattle.list_network.specs.declared.relax.Outcome.TheVariants.{Rest, Raised, Stuck}
 use Rattle.list_network.specs.Relaxing.{Old, Candidate, Follows, Resting, Rising, Relaxed, Settling}
 
-all_left : (P : Limit → Type 0) (ls ks : List Limit) → All P (ls ++ ks) → All P ls
+all_left : (P : Limit → Type 0) (ls ks : List Limit) → AllByRecursion P (ls ++ ks) → AllByRecursion P ls
 all_left P [] ks h = tt
 all_left P (l ∷ ls) ks h = (h.0, all_left P ls ks h.1)
 
-all_right : (P : Limit → Type 0) (ls ks : List Limit) → All P (ls ++ ks) → All P ks
+all_right : (P : Limit → Type 0) (ls ks : List Limit) → AllByRecursion P (ls ++ ks) → AllByRecursion P ks
 all_right P [] ks h = h
 all_right P (l ∷ ls) ks h = all_right P ls ks h.1
 
@@ -41,7 +41,7 @@ module _ (day : Day) (newest : Limit) (ls ks : List Limit) where
   -- ks after ls: the outcome of both
   then_rest : (ts ts₁ ts₂ : List ℕ) (o : Outcome) → Relaxed day newest ls ts o ts₁ → Resting ks ts₁ ts₂ → Relaxed day newest (ls ++ ks) ts o ts₂
   then_rest ts ts₁ ts₂ Rest s q =
-      let F : List ℕ → Type 0 = λ us. All (Keeps (minute us)) ks in
+      let F : List ℕ → Type 0 = λ us. AllByRecursion (Keeps (minute us)) ks in
       record {
         same = q.same ∙ s.same;
         keeps = All-append (Keeps (minute ts)) ls ks s.keeps (subst F s.same q.keeps);

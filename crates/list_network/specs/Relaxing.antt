@@ -13,7 +13,7 @@
 --   Settling    minutes have come to rest
 --   Settled     what settling minutes answers, and what it leaves
 use Rattle.std.specs.Prelude.{◌≡◌, ℕ, ◌+◌, ◌-◌, ◌<◌, ◌≤◌, Bool, true, false, ◌⊎◌, List, [], ◌∷◌, ℤ, pos, ◌-ℤ◌, ◌≤ℤ◌}
-use Rattle.std.specs.List.{AllByRecursion as All}
+use Rattle.std.specs.List.{AllByRecursion}
 use Rattle.problem.specs.Timetables.{OfDay, minute, gap}
 use Rattle.problem.specs.declared.day.Day.{Day}
 use Rattle.network.specs.Limits.{Keeps}
@@ -38,8 +38,8 @@ Old us newest l = Keeps (minute us) l ⊎ (l ≡ newest)
 pub record Candidate (day : Day) (newest : Limit) (ls : List Limit) (us : List ℕ) (T : ℕ → ℕ) : Type 0 where
   pub timetable : OfDay day T
   pub keeps_newest : Keeps T newest
-  pub keeps : All (Keeps T) ls
-  pub old : All (Old us newest) ls
+  pub keeps : AllByRecursion (Keeps T) ls
+  pub old : AllByRecursion (Old us newest) ls
 
 -- in T event i comes at least as long after the newest limit's y as z after what that limit left to its y at us
 abbrev pub Forced : Limit → List ℕ → (ℕ → ℕ) → ℕ → ℤ → Type 0
@@ -62,7 +62,7 @@ Lost day newest ls ts = (us : List ℕ) (T : ℕ → ℕ) → Candidate day newe
 -- ts stay, and keep each of ls
 pub record Resting (ls : List Limit) (ts ts' : List ℕ) : Type 0 where
   pub same : ts' ≡ ts
-  pub keeps : All (Keeps (minute ts)) ls
+  pub keeps : AllByRecursion (Keeps (minute ts)) ls
 
 -- ts' are a timetable of the day, nearer to the horizon than ts, and below each candidate that ts were below
 pub record Rising (day : Day) (newest : Limit) (ls : List Limit) (ts ts' : List ℕ) : Type 0 where
@@ -79,7 +79,7 @@ Relaxed day newest ls ts Stuck ts' = Lost day newest ls ts
 -- ts' are a timetable of the day that keeps each of ls, and below each candidate that ts were below
 pub record Settling (day : Day) (newest : Limit) (ls : List Limit) (ts ts' : List ℕ) : Type 0 where
   pub timetable : OfDay day (minute ts')
-  pub keeps : All (Keeps (minute ts')) ls
+  pub keeps : AllByRecursion (Keeps (minute ts')) ls
   pub follows : Follows day newest ls ts ts'
 
 -- from ts, whether they come to rest, to ts'

@@ -1,7 +1,7 @@
 -- The smallest minutes of each beginning of the limits: what always holds of them, and how the calls keep it.
 use Rattle.std.specs.Prelude.{◌≡◌, ℕ, ◌+◌, ◌<◌, ◌≤◌, List, [], length, take, replicate, slice_index_or, slice_set, refl}
 use Rattle.std.proofs.Common.{sym, subst, inl, inr, ⊎_elim, arith}
-use Rattle.std.specs.List.{AllByRecursion as All}
+use Rattle.std.specs.List.{AllByRecursion}
 use Rattle.std.proofs.lemmas.List.{get_or-set_same, get_or-set_other, get_or-replicate, get_or_past, length-replicate, take_more_set, length-set}
 use Rattle.std.proofs.lemmas.Bool.{cases_eq, cases_lt}
 use Rattle.problem.specs.Bounds.{max_events}
@@ -86,7 +86,7 @@ module _ (day : Day) (c : ℕ) (ls : List Limit) (tss : List (List ℕ)) (l : Li
   lawful_longer : Throughout (Lawful day) written (c + 1)
   lawful_longer = throughout_more (Lawful day) ls c l room s.lawful good
 
-  pub all_lawful : All (Lawful day) longer
+  pub all_lawful : AllByRecursion (Lawful day) longer
   all_lawful = all_first (Lawful day) written (c + 1) long lawful_longer
 
   -- the minutes so far keep each limit but the newest
@@ -111,7 +111,7 @@ module _ (day : Day) (c : ℕ) (ls : List Limit) (tss : List (List ℕ)) (l : Li
   -- no minutes left: no timetable
   pub clashes : Lost day l longer row → Unsolvable (with_limit (net day (take c ls)) l)
   clashes lost T t =
-      let F : List Limit → Type 0 = All (Keeps T) in
+      let F : List Limit → Type 0 = AllByRecursion (Keeps T) in
       let keeps = first_all (Keeps T) written (c + 1) long (subst F (sym (take_more_set ls c l room)) t.1) in
       lost row T (candidate T t.0 keeps) (starts_below T t.0 keeps)
 

@@ -1,6 +1,6 @@
 //! The smallest minutes that limits leave to events: minutes are raised, limit by limit, until they rest.
 ghost use Rattle.std.specs.Prelude.{◌≤◌, [], ◌∷◌, length};
-ghost use Rattle.std.specs.List.{AllByRecursion as All};
+ghost use Rattle.std.specs.List.{AllByRecursion};
 ghost use Rattle.problem.specs.Timetables.{OfDay, minute};
 ghost use Rattle.network.specs.Limits.{Lawful};
 ghost use Rattle.list_network.specs.Relaxing.{Relaxed, Settled};
@@ -42,7 +42,7 @@ fn relax(times: &mut [u16], limit: Limit, newest: Limit, day: Day) -> Outcome
 
 /// Relaxes each limit once.
 fn round(times: &mut [u16], limits: &[Limit], newest: Limit, day: Day) -> Outcome
-    requires lawful { All (Lawful day) limits.now }
+    requires lawful { AllByRecursion (Lawful day) limits.now }
     requires timetable { OfDay day (minute times.old) }
     requires long { day.events ≤ length times.old }
     ensures { Relaxed day newest limits.now times.old result times.new }
@@ -60,7 +60,7 @@ fn round(times: &mut [u16], limits: &[Limit], newest: Limit, day: Day) -> Outcom
 
 /// Relaxes the limits, round after round, until the minutes keep them all: whether they can.
 pub(crate) fn settle(times: &mut [u16], limits: &[Limit], newest: Limit, day: Day) -> bool
-    requires lawful { All (Lawful day) limits.now }
+    requires lawful { AllByRecursion (Lawful day) limits.now }
     requires timetable { OfDay day (minute times.old) }
     requires long { day.events ≤ length times.old }
     ensures { Settled day newest limits.now times.old result times.new }

@@ -1,6 +1,6 @@
 -- The first limits of an array, by place and as a list, and what a write leaves of them.
 use Rattle.std.proofs.Common.{◌≡◌, ℕ, ◌+◌, ◌<◌, ◌≤◌, List, [], ◌∷◌, ◌++◌, length, get_or, take, set, sym, ap, ◌∙◌, subst, ⊎_elim, arith}
-use Rattle.std.specs.List.{AllByRecursion as All}
+use Rattle.std.specs.List.{AllByRecursion}
 use Rattle.std.proofs.ByRecursion.{All-get_or, All-from_get_or}
 use Rattle.std.proofs.lemmas.List.{get_or-set_same, get_or-set_other, get_or-take, length-take-le, take_more}
 use Rattle.std.proofs.lemmas.Bool.{cases_eq}
@@ -8,12 +8,12 @@ use Rattle.network.specs.Prefixes.{nowhere, Throughout}
 use Rattle.network.specs.declared.limit.Limit.{Limit}
 
 module _ (P : Limit → Type 0) (ls : List Limit) (k : ℕ) where
-  pub all_first : k ≤ length ls → Throughout P ls k → All P (take k ls)
+  pub all_first : k ≤ length ls → Throughout P ls k → AllByRecursion P (take k ls)
   all_first le h = All-from_get_or P (take k ls) nowhere λ i lt.
       let within : i < k = omega (arith, length-take-le k ls le) in
       subst P (sym (get_or-take k ls i nowhere within)) (h i within)
 
-  pub first_all : k ≤ length ls → All P (take k ls) → Throughout P ls k
+  pub first_all : k ≤ length ls → AllByRecursion P (take k ls) → Throughout P ls k
   first_all le a i lt =
       let within : i < length (take k ls) = omega (arith, length-take-le k ls le) in
       subst P (get_or-take k ls i nowhere lt) (All-get_or P (take k ls) i nowhere within a)

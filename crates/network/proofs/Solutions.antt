@@ -2,7 +2,7 @@
 use Rattle.std.proofs.Common.{◌≡◌, ℕ, ◌<◌, ◌≤◌, min, List, [], ◌∷◌, ◌++◌, length, get_or, sym, ◌∙◌, arith}
 use Rattle.std.proofs.ByRecursion.{All-weaker, All-get_or, All-from_get_or, all_shuffled}
 use Rattle.std.proofs.lemmas.Int.{ints}
-use Rattle.std.specs.List.{AllByRecursion as All}
+use Rattle.std.specs.List.{AllByRecursion}
 use Rattle.network.specs.Laws.{MinimumSolves, SmallestSolve, OrderIsFree, ShorterSolvable}
 use Rattle.network.specs.Limits.{Lawful, Keeps}
 use Rattle.network.specs.Prefixes.{nowhere}
@@ -11,11 +11,11 @@ use Rattle.network.specs.declared.limit.Limit.{Limit}
 use Rattle.network.proofs.Taken.{lawful_x, lawful_y}
 
 -- two facts of each element, together
-all_both : {X : Type 0} (P Q : X → Type 0) (xs : List X) → All P xs → All Q xs → All (λ x. P x × Q x) xs
+all_both : {X : Type 0} (P Q : X → Type 0) (xs : List X) → AllByRecursion P xs → AllByRecursion Q xs → AllByRecursion (λ x. P x × Q x) xs
 all_both P Q [] h k = tt
 all_both P Q (x ∷ xs) h k = ((h.0, k.0), all_both P Q xs h.1 k.1)
 
-all_first : {X : Type 0} (P : X → Type 0) (xs ys : List X) → All P (xs ++ ys) → All P xs
+all_first : {X : Type 0} (P : X → Type 0) (xs ys : List X) → AllByRecursion P (xs ++ ys) → AllByRecursion P xs
 all_first P [] ys h = tt
 all_first P (x ∷ xs) ys h = (h.0, all_first P xs ys h.1)
 
@@ -28,7 +28,7 @@ minimum_solves m T U s t = (
   All-weaker (λ l. Keeps T l × Keeps U l) (Keeps (λ i. min (T i) (U i))) (keeps_minimum T U) m.limits (all_both (Keeps T) (Keeps U) m.limits s.1 t.1),
 )
 
-module _ (m : Net) (S : ℕ → ℕ) (lawful : All (Lawful m.day) m.limits) (least : (i : ℕ) → i < m.day.events → Earliest m i (S i)) where
+module _ (m : Net) (S : ℕ → ℕ) (lawful : AllByRecursion (Lawful m.day) m.limits) (least : (i : ℕ) → i < m.day.events → Earliest m i (S i)) where
   -- a solution with the smallest minute of y puts x no earlier than S does
   keeps_smallest : (k : ℕ) → k < length m.limits → Keeps S (get_or m.limits k nowhere)
   keeps_smallest k within =

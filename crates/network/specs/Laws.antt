@@ -5,7 +5,7 @@
 --   ShorterSolvable   what solves a list solves a shorter one
 use Rattle.std.specs.Prelude.{ℕ, ◌<◌, min, List, ◌++◌}
 use Rattle.std.specs.List.Sorted.{IsPermutation}
-use Rattle.std.specs.List.{AllByRecursion as All}
+use Rattle.std.specs.List.{AllByRecursion}
 use Rattle.problem.specs.declared.day.Day.{Day}
 use Rattle.network.specs.Limits.{Lawful}
 use Rattle.network.specs.Nets.{Net, Solves, Earliest}
@@ -18,7 +18,7 @@ MinimumSolves = (m : Net) (T U : ℕ → ℕ) → Solves m T → Solves m U → 
 -- where S gives each event its smallest minute, S is a solution itself
 abbrev pub SmallestSolve : Type 0
 SmallestSolve =
-    (m : Net) (S : ℕ → ℕ) → All (Lawful m.day) m.limits → ((i : ℕ) → i < m.day.events → Earliest m i (S i)) → Solves m S
+    (m : Net) (S : ℕ → ℕ) → AllByRecursion (Lawful m.day) m.limits → ((i : ℕ) → i < m.day.events → Earliest m i (S i)) → Solves m S
 
 -- the same limits, each as often, have the same solutions
 abbrev pub OrderIsFree : Type 0

@@ -5,7 +5,7 @@
 --   Earliest     the smallest minute that any such timetable gives to an event
 --   Sound        what holds of every network
 use Rattle.std.specs.Prelude.{◌≡◌, ℕ, ◌≤◌, List, length}
-use Rattle.std.specs.List.{AllByRecursion as All}
+use Rattle.std.specs.List.{AllByRecursion}
 use Rattle.problem.specs.Timetables.{OfDay}
 use Rattle.problem.specs.declared.day.Day.{Day}
 use Rattle.network.specs.Limits.{max_limits, Lawful, Keeps}
@@ -18,7 +18,7 @@ pub record Net : Type 0 where
 
 -- T is a timetable of the day and keeps every limit
 abbrev pub Solves : Net → (ℕ → ℕ) → Type 0
-Solves m T = OfDay m.day T × All (Keeps T) m.limits
+Solves m T = OfDay m.day T × AllByRecursion (Keeps T) m.limits
 
 -- no timetable of the day keeps every limit
 abbrev pub Unsolvable : Net → Type 0
@@ -31,6 +31,6 @@ pub record Earliest (m : Net) (i t : ℕ) : Type 0 where
 
 -- every limit is lawful, there are not too many, and some timetable solves the network
 pub record Sound (m : Net) : Type 0 where
-  pub lawful : All (Lawful m.day) m.limits
+  pub lawful : AllByRecursion (Lawful m.day) m.limits
   pub few : length m.limits ≤ max_limits
   pub solvable : (T : ℕ → ℕ) × Solves m T

@@ -1,6 +1,6 @@
 -- What the checks of rules say of their choices.
 use Rattle.std.proofs.Common.{◌≡◌, ℕ, zero, suc, ◌+◌, ◌<◌, ◌≤◌, true, leb, List, [], ◌∷◌, length, refl, le_of_suc-le-suc, arith}
-use Rattle.std.specs.List.{AllByRecursion as All}
+use Rattle.std.specs.List.{AllByRecursion}
 use Rattle.std.proofs.ByRecursion.{All-weaker}
 use Rattle.std.proofs.lemmas.Bool.{and_parts, leb-true}
 use Rattle.problem.specs.Bounds.{max_disjuncts}
@@ -34,13 +34,13 @@ module _ (day : Day) where
       let w = widths r r.kind refl in
       (omega arith, omega arith)
 
-  all_wide : (rules : List Rule) → Fit day rules → All Wide rules
+  all_wide : (rules : List Rule) → Fit day rules → AllByRecursion Wide rules
   all_wide rules fit = All-weaker (λ r. passes (rule_checks day r) ≡ true) Wide wide rules (passes_each (rule_checks day) rules fit)
 
   pub fit_some : (rules : List Rule) → Fit day rules → SomeChoice rules
   fit_some rules fit = All-weaker Wide (λ r. 1 ≤ length (choices r)) (λ r w. w.0) rules (all_wide rules fit)
 
-  wide_at : (rules : List Rule) (i : ℕ) → All Wide rules → width_at rules i ≤ 9
+  wide_at : (rules : List Rule) (i : ℕ) → AllByRecursion Wide rules → width_at rules i ≤ 9
   wide_at [] i w = omega arith
   wide_at (r ∷ rules) zero w = w.0.1
   wide_at (r ∷ rules) (suc i) w = wide_at rules i w.1

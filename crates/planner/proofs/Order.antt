@@ -1,7 +1,7 @@
 -- The next selection in the order of selections.
 use Rattle.std.proofs.Common.{◌≡◌, ℕ, zero, suc, ◌+◌, ◌-◌, ◌<◌, ◌≤◌, Bool, true, false, ◌&&◌, ◌||◌, eqb, ltb, ◌⊎◌, List, [], ◌∷◌, ◌++◌, length, get_or, take, replicate, sym, refl, ap, ◌∙◌, subst, ap₂, inl, inr, le_of_suc-le-suc, arith}
 use Rattle.std.proofs.lemmas.Bool.{and_parts, and_from, and_left, and_right, or_left, or_right, or_from, lt-ltb, le-ltb, eq-eqb, ne_eqb, ltb-true, false≢true, cases_order}
-use Rattle.std.specs.List.{AllByRecursion as All}
+use Rattle.std.specs.List.{AllByRecursion}
 use Rattle.problem.specs.Rules.{Rule}
 use Rattle.problem.specs.Timetables.{choices}
 use Rattle.search.specs.Tests.{selects, before, same_numbers}
@@ -93,7 +93,7 @@ raised_before (r ∷ rules) (n ∷ ns) (q ∷ qs) (suc i) (suc j) hn hq a l last
 
 -- every rule has a choice
 abbrev pub SomeChoice : List Rule → Type 0
-SomeChoice rules = All (λ r. 1 ≤ length (choices r)) rules
+SomeChoice rules = AllByRecursion (λ r. 1 ≤ length (choices r)) rules
 
 pub selects_first : (rules : List Rule) → SomeChoice rules → selects rules (replicate (length rules) 0) ≡ true
 selects_first [] s = refl

@@ -1,6 +1,6 @@
 //! Putting the limits of choices on a network, and taking them off again.
 ghost use Rattle.std.specs.Prelude.{◌≡◌, ◌+◌, ◌<◌, ◌≤◌, min, max, true, List, [], ◌∷◌, ◌++◌, map, length, neg_ℤ, slice_index_or};
-ghost use Rattle.std.specs.List.{AllByRecursion as All};
+ghost use Rattle.std.specs.List.{AllByRecursion};
 ghost use Rattle.problem.specs.Checks.{in_range};
 ghost use Rattle.problem.specs.Rules.{rule_of};
 ghost use Rattle.problem.specs.Timetables.{Choice, choices};
@@ -41,7 +41,7 @@ fn lower_limit(option: Disjunct) -> Limit
 
 /// Puts both limits on, or neither; says whether some timetable meets them with the others.
 fn push_both<N: Network>(network: &mut N, first: Limit, second: Limit) -> bool
-    requires lawful { All (Lawful (N.Network.net network.old).day) (first ∷ (second ∷ [])) }
+    requires lawful { AllByRecursion (Lawful (N.Network.net network.old).day) (first ∷ (second ∷ [])) }
     requires room { length (N.Network.net network.old).limits + 2 ≤ max_limits }
     ensures { Put (N.Network.net network.old) (first ∷ (second ∷ [])) result (N.Network.net network.new) }
 {
@@ -57,7 +57,7 @@ fn push_both<N: Network>(network: &mut N, first: Limit, second: Limit) -> bool
 
 /// Puts the limits of the option on, or neither; says whether some timetable meets them with the others.
 fn push_option<N: Network>(network: &mut N, option: Disjunct) -> bool
-    requires lawful { All (Lawful (N.Network.net network.old).day) (choice_limits (Choice.option option)) }
+    requires lawful { AllByRecursion (Lawful (N.Network.net network.old).day) (choice_limits (Choice.option option)) }
     requires room { length (N.Network.net network.old).limits + 2 ≤ max_limits }
     ensures { Put (N.Network.net network.old) (choice_limits (Choice.option option)) result (N.Network.net network.new) }
 {

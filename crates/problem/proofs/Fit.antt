@@ -1,6 +1,6 @@
 -- Checks that all pass, as the rules of a problem do.
 use Rattle.std.proofs.Common.{◌≡◌, ◌<◌, Bool, true, false, cond, ◌&&◌, ltb, List, [], ◌∷◌, ◌++◌, Some, None, Option, refl, ap, ◌∙◌}
-use Rattle.std.specs.List.{flat_map, AllByRecursion as All}
+use Rattle.std.specs.List.{flat_map, AllByRecursion}
 use Rattle.std.proofs.ByRecursion.{All-weaker}
 use Rattle.std.proofs.lemmas.Bool.{and_from, and_parts, ltb-true}
 use Rattle.problem.specs.declared.constraint.Disjunct.{Disjunct}
@@ -48,7 +48,7 @@ module _ {X : Type 0} (f : X → List Check) where
   passes_none xs e = ap (λ ys. passes (flat_map f ys)) e
 
   -- all pass, so those of each element do
-  pub passes_each : (xs : List X) → passes (flat_map f xs) ≡ true → All (λ x. passes (f x) ≡ true) xs
+  pub passes_each : (xs : List X) → passes (flat_map f xs) ≡ true → AllByRecursion (λ x. passes (f x) ≡ true) xs
   passes_each [] h = tt
   passes_each (x ∷ xs) h = let p = passes_parts (f x) (flat_map f xs) h in (p.0, passes_each xs p.1)
 
@@ -64,11 +64,11 @@ module _ (day : Day) where
       (ltb-true _ _ q.0, ltb-true _ _ (and_parts (ltb d.y day.events) _ q.1).0)
 
   -- the events that a rule names are of the day that it fits
-  rule_fits : (r : Rule) → passes (rule_checks day r) ≡ true → All OfEvents r.options
+  rule_fits : (r : Rule) → passes (rule_checks day r) ≡ true → AllByRecursion OfEvents r.options
   rule_fits r h =
       let rest = (passes_parts (kind_checks r.kind) (flat_map (disjunct_checks day) r.options) (and_parts _ _ h).1).1 in
       All-weaker (λ d. passes (disjunct_checks day d) ≡ true) OfEvents events_fit r.options (passes_each (disjunct_checks day) r.options rest)
 
-  pub rules_fit : (rs : List Rule) → passes (flat_map (rule_checks day) rs) ≡ true → All (λ r. All OfEvents r.options) rs
+  pub rules_fit : (rs : List Rule) → passes (flat_map (rule_checks day) rs) ≡ true → AllByRecursion (λ r. AllByRecursion OfEvents r.options) rs
   rules_fit rs h =
-      All-weaker (λ r. passes (rule_checks day r) ≡ true) (λ r. All OfEvents r.options) rule_fits rs (passes_each (rule_checks day) rs h)
+      All-weaker (λ r. passes (rule_checks day r) ≡ true) (λ r. AllByRecursion OfEvents r.options) rule_fits rs (passes_each (rule_checks day) rs h)

@@ -5,7 +5,7 @@
 --   RuleCost      what a rule costs under a timetable
 --   Costs         what a timetable costs under rules
 use Rattle.std.specs.Prelude.{◌≡◌, ℕ, List, [], ◌∷◌, fold}
-use Rattle.std.specs.List.{AllByRecursion as All}
+use Rattle.std.specs.List.{AllByRecursion}
 use Rattle.counting.specs.Ways.{Way, AtMost}
 use Rattle.counting.specs.declared.penalty.Penalty.{Penalty}
 use Rattle.problem.specs.Rules.{Rule}
@@ -31,7 +31,7 @@ module _ {C : Type 0} (way : Way C) where
   -- some choice that T meets costs c, and none that T meets costs less
   pub record Least (T : ℕ → ℕ) (chs : List Choice) (c : C) : Type 0 where
     pub reached : Any (λ ch. Chosen T ch × (choice_cost ch ≡ c)) chs
-    pub lowest : All (λ ch. Chosen T ch → AtMost way c (choice_cost ch)) chs
+    pub lowest : AllByRecursion (λ ch. Chosen T ch → AtMost way c (choice_cost ch)) chs
 
   -- the least among all its choices
   abbrev pub RuleCost : (ℕ → ℕ) → Rule → C → Type 0

@@ -10,7 +10,7 @@
 --   Satisfies   a timetable meets some choice of a rule
 --   Allowed     a timetable meets some choice of every rule
 use Rattle.std.specs.Prelude.{◌≡◌, ℕ, ◌<◌, ◌≤◌, ◌⊎◌, List, [], ◌∷◌, ◌++◌, map, ℤ, pos, ◌-ℤ◌, ◌≤ℤ◌, slice_index}
-use Rattle.std.specs.List.{AllByRecursion as All}
+use Rattle.std.specs.List.{AllByRecursion}
 use Rattle.counting.specs.declared.penalty.Penalty.{Penalty}
 use Rattle.problem.specs.declared.constraint.Disjunct.{Disjunct}
 use Rattle.problem.specs.declared.constraint.Kind.{Kind}
@@ -64,4 +64,4 @@ Satisfies T r = Any (Chosen T) (choices r)
 
 -- T meets some choice of each
 abbrev pub Allowed : (ℕ → ℕ) → List Rule → Type 0
-Allowed T rules = All (Satisfies T) rules
+Allowed T rules = AllByRecursion (Satisfies T) rules

@@ -1,6 +1,6 @@
 -- Selections and timetables: what a timetable meets, and what it costs.
 use Rattle.std.proofs.Common.{◌≡◌, ℕ, zero, suc, ◌<◌, ◌⊎◌, List, [], ◌∷◌, ◌++◌, map, length, get_or, take, ◌≤ℤ◌, ◌<ℤ◌, Some, None, fold, Option, sym, refl, ap, ◌∙◌, subst, ap₂, inl, inr, suc-le-suc, zero-le, le_of_suc-le-suc, arith}
-use Rattle.std.specs.List.{AllByRecursion as All}
+use Rattle.std.specs.List.{AllByRecursion}
 use Rattle.std.proofs.ByRecursion.{All-take, All-get_or}
 use Rattle.std.proofs.lemmas.List.{append_assoc, append-nil, take-map}
 use Rattle.std.proofs.lemmas.Int.{ints, by_lt_z}
@@ -25,7 +25,7 @@ picked_take (r ∷ rules) (n ∷ ns) (suc j) = ap (λ chs. get_or (choices r) n 
 
 -- what meets a selection meets its prefixes
 pub met_take : (day : Day) (rules : List Rule) (T : ℕ → ℕ) (ns : List ℕ) (j : ℕ) → Met day rules T ns → Met day rules T (take j ns)
-met_take day rules T ns j m = (m.0, subst (All (Chosen T)) (sym (picked_take rules ns j)) (All-take (Chosen T) j (picked rules ns) m.1))
+met_take day rules T ns j m = (m.0, subst (AllByRecursion (Chosen T)) (sym (picked_take rules ns j)) (All-take (Chosen T) j (picked rules ns) m.1))
 
 pub feasible_take : (day : Day) (rules : List Rule) (ns : List ℕ) (j : ℕ) → Feasible day rules ns → Feasible day rules (take j ns)
 feasible_take day rules ns j f = (f.0, met_take day rules f.0 ns j f.1)
@@ -52,7 +52,7 @@ module _ {X : Type 0} (P : X → Type 0) where
 
 module _ (T : ℕ → ℕ) where
   -- a timetable that is allowed meets some selection
-  pub allowed_selects : (rules : List Rule) → Allowed T rules → (ns : List ℕ) × Selection rules ns × All (Chosen T) (picked rules ns)
+  pub allowed_selects : (rules : List Rule) → Allowed T rules → (ns : List ℕ) × Selection rules ns × AllByRecursion (Chosen T) (picked rules ns)
   allowed_selects [] a = ([], tt, tt)
   allowed_selects (r ∷ rules) a =
       let p = any_place (Chosen T) (choices r) no_choice a.0 in
@@ -60,7 +60,7 @@ module _ (T : ℕ → ℕ) where
       (p.0 ∷ t.0, (p.1, t.1), (p.2, t.2))
 
   -- and the other way
-  pub selected_allowed : (rules : List Rule) (ns : List ℕ) → Selection rules ns → All (Chosen T) (picked rules ns) → Allowed T rules
+  pub selected_allowed : (rules : List Rule) (ns : List ℕ) → Selection rules ns → AllByRecursion (Chosen T) (picked rules ns) → Allowed T rules
   selected_allowed [] ns s m = tt
   selected_allowed (r ∷ rules) [] s m = absurd s
   selected_allowed (r ∷ rules) (n ∷ ns) s m = (place_any (Chosen T) (choices r) n no_choice s.0 m.0, selected_allowed rules ns s.1 m.1)
@@ -76,7 +76,7 @@ module _ (T : ℕ → ℕ) where
 module _ {C : Type 0} (way : Way C) (T : ℕ → ℕ) where
   -- the selection of the cheapest choices that T meets
   costs_select : (rules : List Rule) (each : List C) → Pairwise (RuleCost way T) rules each
-      → (ns : List ℕ) × Selection rules ns × All (Chosen T) (picked rules ns) × (map (choice_cost way) (picked rules ns) ≡ each)
+      → (ns : List ℕ) × Selection rules ns × AllByRecursion (Chosen T) (picked rules ns) × (map (choice_cost way) (picked rules ns) ≡ each)
   costs_select [] [] p = ([], tt, tt, refl)
   costs_select [] (c ∷ cs) p = absurd p
   costs_select (r ∷ rules) [] p = absurd p
@@ -87,13 +87,13 @@ module _ {C : Type 0} (way : Way C) (T : ℕ → ℕ) where
 
   -- what a timetable costs is the price of a selection that it meets
   pub costs_selects : (rules : List Rule) (c : C) → Costs way T rules c
-      → (ns : List ℕ) × Selection rules ns × All (Chosen T) (picked rules ns) × (price way rules ns ≡ c)
+      → (ns : List ℕ) × Selection rules ns × AllByRecursion (Chosen T) (picked rules ns) × (price way rules ns ≡ c)
   costs_selects rules c h =
       let t = costs_select rules h.each h.priced in
       (t.0, t.1, t.2, ap (fold way.join way.zero) t.3 ∙ h.joined)
 
   -- no choice that T meets costs less than the rule does
-  each_lowest : (rules : List Rule) (each : List C) (ns : List ℕ) → Pairwise (RuleCost way T) rules each → Selection rules ns → All (Chosen T) (picked rules ns)
+  each_lowest : (rules : List Rule) (each : List C) (ns : List ℕ) → Pairwise (RuleCost way T) rules each → Selection rules ns → AllByRecursion (Chosen T) (picked rules ns)
       → Pairwise (AtMost way) each (map (choice_cost way) (picked rules ns))
   each_lowest [] [] ns p s m = tt
   each_lowest [] (c ∷ cs) ns p s m = absurd p
@@ -105,7 +105,7 @@ module _ {C : Type 0} (way : Way C) (T : ℕ → ℕ) where
   )
 
   -- a timetable costs at most the price of any selection that it meets
-  pub costs_lowest : Ranked way → (rules : List Rule) (c : C) (ns : List ℕ) → Costs way T rules c → Selection rules ns → All (Chosen T) (picked rules ns)
+  pub costs_lowest : Ranked way → (rules : List Rule) (c : C) (ns : List ℕ) → Costs way T rules c → Selection rules ns → AllByRecursion (Chosen T) (picked rules ns)
       → AtMost way c (price way rules ns)
   costs_lowest laws rules c ns h s m =
       subst (λ x. AtMost way x (price way rules ns)) h.joined

@@ -1,7 +1,7 @@
 -- A timetable meets a prefix exactly if it solves the network of its limits, and these limits are lawful where the rules fit.
 use Rattle.std.proofs.Common.{◌≡◌, ℕ, zero, suc, ◌<◌, true, ltb, List, [], ◌∷◌, ◌++◌, map, length, get_or, ℤ, pos, ◌-ℤ◌, neg_ℤ, ◌≤ℤ◌, sym, subst, ap₂, arith}
 use lib.Signed.{le_z}
-use Rattle.std.specs.List.{flat_map, AllByRecursion as All}
+use Rattle.std.specs.List.{flat_map, AllByRecursion}
 use Rattle.std.proofs.ByRecursion.{All-append, All-map, All-get_or}
 use Rattle.std.proofs.lemmas.Int.{ints}
 use Rattle.std.proofs.lemmas.Bool.{and_parts, and_from, ltb-true, not-true, not_from_false, eqb-false, ne_eqb}
@@ -22,28 +22,28 @@ use Rattle.search.specs.Limiting.{choice_limits, prefix_limits, prefix_net}
 
 module _ (T : ℕ → ℕ) where
   -- meeting an option is keeping its two limits
-  pub chosen_keeps : (ch : Choice) → Chosen T ch → All (Keeps T) (choice_limits ch)
+  pub chosen_keeps : (ch : Choice) → Chosen T ch → AllByRecursion (Keeps T) (choice_limits ch)
   chosen_keeps (give_up p) h = tt
   chosen_keeps (option d) h =
       let low : d.lo ≤ℤ gap T d.x d.y = h.0 in
       (h.1, (omega (arith, ints), tt))
 
-  pub keeps_chosen : (ch : Choice) → All (Keeps T) (choice_limits ch) → Chosen T ch
+  pub keeps_chosen : (ch : Choice) → AllByRecursion (Keeps T) (choice_limits ch) → Chosen T ch
   keeps_chosen (give_up p) h = tt
   keeps_chosen (option d) h =
       let low : gap T d.y d.x ≤ℤ neg_ℤ d.lo = h.1.0 in
       (omega (arith, ints), h.0)
 
-  all_keep : (chs : List Choice) → All (Chosen T) chs → All (Keeps T) (flat_map choice_limits chs)
+  all_keep : (chs : List Choice) → AllByRecursion (Chosen T) chs → AllByRecursion (Keeps T) (flat_map choice_limits chs)
   all_keep [] h = tt
   all_keep (ch ∷ chs) h = All-append (Keeps T) (choice_limits ch) (flat_map choice_limits chs) (chosen_keeps ch h.0) (all_keep chs h.1)
 
   -- what holds of two lists put together holds of each
-  all_parts : (ls ks : List Limit) → All (Keeps T) (ls ++ ks) → All (Keeps T) ls × All (Keeps T) ks
+  all_parts : (ls ks : List Limit) → AllByRecursion (Keeps T) (ls ++ ks) → AllByRecursion (Keeps T) ls × AllByRecursion (Keeps T) ks
   all_parts [] ks h = (tt, h)
   all_parts (l ∷ ls) ks h = let t = all_parts ls ks h.1 in ((h.0, t.0), t.1)
 
-  all_chosen : (chs : List Choice) → All (Keeps T) (flat_map choice_limits chs) → All (Chosen T) chs
+  all_chosen : (chs : List Choice) → AllByRecursion (Keeps T) (flat_map choice_limits chs) → AllByRecursion (Chosen T) chs
   all_chosen [] h = tt
   all_chosen (ch ∷ chs) h = let t = all_parts (choice_limits ch) (flat_map choice_limits chs) h in (keeps_chosen ch t.0, all_chosen chs t.1)
 
@@ -60,29 +60,29 @@ module _ (day : Day) where
   SoundChoice (option d) = passes (disjunct_checks day d) ≡ true
   SoundChoice (give_up p) = Unit {0}
 
-  sound_giving_up : (k : Kind) → All SoundChoice (giving_up k)
+  sound_giving_up : (k : Kind) → AllByRecursion SoundChoice (giving_up k)
   sound_giving_up Firm = tt
   sound_giving_up (Wish p) = (tt, tt)
 
-  sound_choices : (r : Rule) → passes (rule_checks day r) ≡ true → All SoundChoice (choices r)
+  sound_choices : (r : Rule) → passes (rule_checks day r) ≡ true → AllByRecursion SoundChoice (choices r)
   sound_choices r h =
       let rest = (passes_parts (kind_checks r.kind) (flat_map (disjunct_checks day) r.options) (and_parts _ _ h).1).1 in
       All-append SoundChoice (map option r.options) (giving_up r.kind)
       (All-map SoundChoice option r.options (passes_each (disjunct_checks day) r.options rest)) (sound_giving_up r.kind)
 
   -- what a list holds, or else its default
-  sound_at : (chs : List Choice) (n : ℕ) → All SoundChoice chs → SoundChoice (get_or chs n no_choice)
+  sound_at : (chs : List Choice) (n : ℕ) → AllByRecursion SoundChoice chs → SoundChoice (get_or chs n no_choice)
   sound_at [] n h = tt
   sound_at (ch ∷ chs) zero h = h.0
   sound_at (ch ∷ chs) (suc n) h = sound_at chs n h.1
 
-  sound_picked : (rules : List Rule) (ns : List ℕ) → All (λ r. passes (rule_checks day r) ≡ true) rules → All SoundChoice (picked rules ns)
+  sound_picked : (rules : List Rule) (ns : List ℕ) → AllByRecursion (λ r. passes (rule_checks day r) ≡ true) rules → AllByRecursion SoundChoice (picked rules ns)
   sound_picked [] ns h = tt
   sound_picked (r ∷ rules) [] h = tt
   sound_picked (r ∷ rules) (n ∷ ns) h = (sound_at (choices r) n (sound_choices r h.0), sound_picked rules ns h.1)
 
   -- every choice of rules that fit the day is sound
-  pub fit_sound : (rules : List Rule) (ns : List ℕ) → Fit day rules → All SoundChoice (picked rules ns)
+  pub fit_sound : (rules : List Rule) (ns : List ℕ) → Fit day rules → AllByRecursion SoundChoice (picked rules ns)
   fit_sound rules ns fit = sound_picked rules ns (passes_each (rule_checks day) rules fit)
 
   -- events the other way round
@@ -100,7 +100,7 @@ module _ (day : Day) where
       let high : le_z (neg_ℤ b) (pos max_bound) ≡ true = let e = p.0 in grind (arith, ints) in
       and_from _ _ low high
 
-  sound_lawful : (ch : Choice) → SoundChoice ch → All (Lawful day) (choice_limits ch)
+  sound_lawful : (ch : Choice) → SoundChoice ch → AllByRecursion (Lawful day) (choice_limits ch)
   sound_lawful (give_up p) h = tt
   sound_lawful (option d) h =
       let p = and_parts (two_events day d.x d.y) _ h in
@@ -109,19 +109,19 @@ module _ (day : Day) where
       let high = (and_parts (in_range d.hi) _ low.1).0 in
       (record { events = p.0; bound = high }, (record { events = two_events_turned d.x d.y p.0; bound = in_range_turned d.lo low.0 }, tt))
 
-  all_lawful : (chs : List Choice) → All SoundChoice chs → All (Lawful day) (flat_map choice_limits chs)
+  all_lawful : (chs : List Choice) → AllByRecursion SoundChoice chs → AllByRecursion (Lawful day) (flat_map choice_limits chs)
   all_lawful [] h = tt
   all_lawful (ch ∷ chs) h = All-append (Lawful day) (choice_limits ch) (flat_map choice_limits chs) (sound_lawful ch h.0) (all_lawful chs h.1)
 
   -- the limits of a choice of a rule that fits are lawful
-  pub choice_lawful : (rules : List Rule) → Fit day rules → (i n : ℕ) (d : Rule) → i < length rules → All (Lawful day) (choice_limits (get_or (choices (get_or rules i d)) n no_choice))
+  pub choice_lawful : (rules : List Rule) → Fit day rules → (i n : ℕ) (d : Rule) → i < length rules → AllByRecursion (Lawful day) (choice_limits (get_or (choices (get_or rules i d)) n no_choice))
   choice_lawful rules fit i n d l =
       let r = get_or rules i d in
       sound_lawful (get_or (choices r) n no_choice)
       (sound_at (choices r) n (sound_choices r (All-get_or (λ q. passes (rule_checks day q) ≡ true) rules i d l (passes_each (rule_checks day) rules fit))))
 
   -- the limits of a prefix are lawful
-  pub prefix_lawful : (rules : List Rule) (prefix : List ℕ) → Fit day rules → All (Lawful day) (prefix_limits rules prefix)
+  pub prefix_lawful : (rules : List Rule) (prefix : List ℕ) → Fit day rules → AllByRecursion (Lawful day) (prefix_limits rules prefix)
   prefix_lawful rules prefix fit = all_lawful (picked rules prefix) (fit_sound rules prefix fit)
 
   -- the events of a sound option are of the day
@@ -139,6 +139,6 @@ module _ (day : Day) where
       let g : gap T d.x d.y ≡ gap U d.x d.y = ap₂ (λ a b. pos a -ℤ pos b) (same d.x e.0) (same d.y e.1) in
       (subst (λ z. d.lo ≤ℤ z) g m.0, subst (λ z. z ≤ℤ d.hi) g m.1)
 
-  pub all_chosen_local : (T U : ℕ → ℕ) → ((i : ℕ) → i < day.events → T i ≡ U i) → (chs : List Choice) → All SoundChoice chs → All (Chosen T) chs → All (Chosen U) chs
+  pub all_chosen_local : (T U : ℕ → ℕ) → ((i : ℕ) → i < day.events → T i ≡ U i) → (chs : List Choice) → AllByRecursion SoundChoice chs → AllByRecursion (Chosen T) chs → AllByRecursion (Chosen U) chs
   all_chosen_local T U same [] h m = tt
   all_chosen_local T U same (ch ∷ chs) h m = (chosen_local T U same ch (h.0, m.0), all_chosen_local T U same chs h.1 m.1)

@@ -1,6 +1,6 @@
 -- Which prefixes are feasible can be told, and the smallest minutes of a feasible one meet it together.
 use Rattle.std.proofs.Common.{ℕ, suc, ◌<◌, ◌≤◌, ◌⊎◌, List, [], ◌∷◌, subst, inl, inr, le_refl, arith}
-use Rattle.std.specs.List.{AllByRecursion as All}
+use Rattle.std.specs.List.{AllByRecursion}
 use Rattle.std.proofs.lemmas.Bool.{cases_lt}
 use Rattle.problem.specs.Rules.{Rule}
 use Rattle.problem.specs.Timetables.{Choice, Chosen}
@@ -14,7 +14,7 @@ use Rattle.search.proofs.Choosing.{met_or_not}
 use Rattle.search.proofs.Limiting.{met_solves, solves_met, fit_sound, prefix_lawful, all_chosen_local}
 use Rattle.search.proofs.Timetables.{Decided, least_number, some_timetable}
 
-all_met_or_not : (T : ℕ → ℕ) (chs : List Choice) → Decided (All (Chosen T) chs)
+all_met_or_not : (T : ℕ → ℕ) (chs : List Choice) → Decided (AllByRecursion (Chosen T) chs)
 all_met_or_not T [] = inl tt
 all_met_or_not T (ch ∷ chs) =
     elim (met_or_not T ch) [
@@ -26,7 +26,7 @@ module _ (day : Day) (rules : List Rule) (fit : Fit day rules) where
   -- whether some timetable meets a prefix
   pub feasible_or_not : (prefix : List ℕ) → Decided (Feasible day rules prefix)
   feasible_or_not prefix =
-      elim (some_timetable day (λ T. All (Chosen T) (picked rules prefix)) (λ T. all_met_or_not T (picked rules prefix))
+      elim (some_timetable day (λ T. AllByRecursion (Chosen T) (picked rules prefix)) (λ T. all_met_or_not T (picked rules prefix))
       (λ T U same h. all_chosen_local day T U same (picked rules prefix) (fit_sound day rules prefix fit) h)) [
         | inl t ↦ inl (t.0, (t.1, t.2))
         | inr n ↦ inr (λ f. n f.0 f.1.0 f.1.1)
@@ -39,7 +39,7 @@ module _ (day : Day) (rules : List Rule) (fit : Fit day rules) where
 
     by_or_not : (i : ℕ) → i < day.events → (t : ℕ) → (By i t → ⊥) ⊎ By i t
     by_or_not i l t =
-        elim (some_timetable day (λ T. All (Chosen T) (picked rules ns) × (T i ≤ t))
+        elim (some_timetable day (λ T. AllByRecursion (Chosen T) (picked rules ns) × (T i ≤ t))
         (λ T. elim (all_met_or_not T (picked rules ns)) [
           | inl h ↦ elim (cases_lt t (T i)) [ inl late ↦ inr (λ m. let early : T i ≤ t = m.1 in omega arith) | inr early ↦ inl (h, early) ]
           | inr n ↦ inr (λ m. n m.0)

@@ -1,7 +1,7 @@
 -- The tests of a search say what its words say.
 use Rattle.std.proofs.Common.{◌≡◌, ℕ, Bool, true, false, eqb, ltb, List, [], ◌∷◌, length, ℤ, ◌≤ℤ◌, refl, ap₂, inl, inr, arith}
 use lib.Signed.{le_z}
-use Rattle.std.specs.List.{AllByRecursion as All}
+use Rattle.std.specs.List.{AllByRecursion}
 use Rattle.std.proofs.lemmas.Int.{ints}
 use Rattle.std.proofs.lemmas.Bool.{and_parts, and_from, or_left, or_right, eqb-true, eq-eqb, ltb-true, lt-ltb, both_ways}
 use Rattle.problem.specs.Rules.{Rule}
@@ -15,7 +15,7 @@ at_most a b h = grind (arith, ints)
 at_most_true : (a b : ℤ) → a ≤ℤ b → le_z a b ≡ true
 at_most_true a b h = grind (arith, ints)
 
-pub every_all : {X : Type 0} (p : X → Bool) (xs : List X) → every p xs ≡ true → All (λ x. p x ≡ true) xs
+pub every_all : {X : Type 0} (p : X → Bool) (xs : List X) → every p xs ≡ true → AllByRecursion (λ x. p x ≡ true) xs
 every_all p [] h = tt
 every_all p (x ∷ xs) h = let q = and_parts (p x) (every p xs) h in (q.0, every_all p xs q.1)
 
@@ -30,11 +30,11 @@ module _ (T : ℕ → ℕ) where
   true_chosen (option d) h = and_from _ _ (at_most_true _ _ h.0) (at_most_true _ _ h.1)
   true_chosen (give_up p) h = refl
 
-  pub every_chosen : (chs : List Choice) → every (chosen T) chs ≡ true → All (Chosen T) chs
+  pub every_chosen : (chs : List Choice) → every (chosen T) chs ≡ true → AllByRecursion (Chosen T) chs
   every_chosen [] h = tt
   every_chosen (ch ∷ chs) h = let q = and_parts (chosen T ch) _ h in (chosen_true ch q.0, every_chosen chs q.1)
 
-  pub chosen_every : (chs : List Choice) → All (Chosen T) chs → every (chosen T) chs ≡ true
+  pub chosen_every : (chs : List Choice) → AllByRecursion (Chosen T) chs → every (chosen T) chs ≡ true
   chosen_every [] h = refl
   chosen_every (ch ∷ chs) h = and_from _ _ (true_chosen ch h.0) (chosen_every chs h.1)
 

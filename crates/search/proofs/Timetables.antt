@@ -1,7 +1,7 @@
 -- Whether some timetable of a day has a property can be told where the property can be told of each.
 use Rattle.std.proofs.Common.{◌≡◌, ℕ, zero, suc, ◌<◌, ◌≤◌, ◌⊎◌, List, [], ◌∷◌, map, length, sym, refl, ap, ◌∙◌, subst, inl, inr, suc-le-suc, le_refl, le_of_suc-le-suc, not-suc-le-zero, eq-or-lt_of_le, arith}
 use native.Mathlib.Nat.{suc_inj}
-use Rattle.std.specs.List.{range_with_len, AllByRecursion as All}
+use Rattle.std.specs.List.{range_with_len, AllByRecursion}
 use Rattle.std.proofs.lemmas.List.FromFn.{length-map-range_with_len, get_or-map-range_with_len}
 use Rattle.std.proofs.ByRecursion.{All-get_or, All-from_get_or}
 use Rattle.std.proofs.lemmas.Bool.{cases_eq}
@@ -29,7 +29,7 @@ least_number P Q d (suc k) =
 module _ (h : ℕ) where
   -- some list of n minutes up to h has P
   abbrev SomeMinutes : ℕ → (List ℕ → Type 0) → Type 0
-  SomeMinutes n P = (ms : List ℕ) × (length ms ≡ n) × All (λ m. m ≤ h) ms × P ms
+  SomeMinutes n P = (ms : List ℕ) × (length ms ≡ n) × AllByRecursion (λ m. m ≤ h) ms × P ms
 
   -- with one minute in front
   longer : (n : ℕ) (P : List ℕ → Type 0) (m : ℕ) → m ≤ h → SomeMinutes n (λ ms. P (m ∷ ms)) → SomeMinutes (suc n) P
@@ -69,7 +69,7 @@ module _ (day : Day) where
   unfolding listed
   listed_length T = length-map-range_with_len T 0 day.events
 
-  listed_within : (T : ℕ → ℕ) → OfDay day T → All (λ m. m ≤ day.horizon) (listed T)
+  listed_within : (T : ℕ → ℕ) → OfDay day T → AllByRecursion (λ m. m ≤ day.horizon) (listed T)
   listed_within T d =
       All-from_get_or (λ m. m ≤ day.horizon) (listed T) 0 λ i l.
       let within : i < day.events = omega (arith, listed_length T) in

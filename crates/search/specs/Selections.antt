@@ -9,7 +9,7 @@
 --   Feasible     some timetable does
 --   price        what a prefix costs
 use Rattle.std.specs.Prelude.{◌≡◌, ℕ, ◌*◌, ◌<◌, true, ◌⊎◌, List, [], ◌∷◌, map, length, fold, slice_index_or}
-use Rattle.std.specs.List.{flat_map, AllByRecursion as All}
+use Rattle.std.specs.List.{flat_map, AllByRecursion}
 use Rattle.counting.specs.Ways.{Way}
 use Rattle.problem.specs.Checks.{passes, rule_checks}
 use Rattle.problem.specs.Costs.{choice_cost, Pairwise}
@@ -49,7 +49,7 @@ module _ (day : Day) (rules : List Rule) where
 
   -- T is a timetable of the day and meets every choice that the prefix picks
   abbrev pub Met : (ℕ → ℕ) → List ℕ → Type 0
-  Met T prefix = OfDay day T × All (Chosen T) (picked rules prefix)
+  Met T prefix = OfDay day T × AllByRecursion (Chosen T) (picked rules prefix)
 
   -- some timetable of the day meets the prefix
   abbrev pub Feasible : List ℕ → Type 0

@@ -1,7 +1,7 @@
 -- The tables over each number of the limits: what the calls answer from them, and how they keep them.
 use Rattle.std.specs.Prelude.{◌≡◌, ℕ, ◌+◌, ◌<◌, ◌≤◌, List, [], length, take, replicate, ℤ, pos, ◌+ℤ◌, ◌≤ℤ◌, ◌<ℤ◌, slice_set, refl}
 use Rattle.std.proofs.Common.{sym, ap, subst, ◌∙◌, ⊎_elim, arith}
-use Rattle.std.specs.List.{AllByRecursion as All}
+use Rattle.std.specs.List.{AllByRecursion}
 use Rattle.std.proofs.lemmas.List.{get_or-set_same, get_or-set_other, take_more_set, length-set, length-take-le}
 use Rattle.std.proofs.lemmas.Bool.{cases_eq}
 use Rattle.problem.specs.declared.day.Day.{Day}
@@ -65,8 +65,8 @@ module _ (day : Day) (c : ℕ) (ls : List Limit) (Ds : List (List ℤ)) (held : 
     -- no way back: no timetable
     pub clashes : (at (table Ds c) l.y l.x +ℤ l.bound) <ℤ pos 0 → Unsolvable (with_limit (net day c ls) l)
     clashes short T s =
-        let F : List Limit → Type 0 = All (Keeps T) in
-        let meets : All (Keeps T) (take (c + 1) (slice_set ls c l)) = subst F (sym (take_more_set ls c l room)) s.1 in
+        let F : List Limit → Type 0 = AllByRecursion (Keeps T) in
+        let meets : AllByRecursion (Keeps T) (take (c + 1) (slice_set ls c l)) = subst F (sym (take_more_set ls c l room)) s.1 in
         let kept = first_all (Keeps T) (slice_set ls c l) (c + 1) (simp length-set (omega arith)) meets in
         clash day ls c (table Ds c) top l lawful short T s.0 (throughout_old (Keeps T) ls c l kept) (throughout_new (Keeps T) ls c l room kept)
 

@@ -1,5 +1,5 @@
 use Rattle.std.proofs.Common.{◌≡◌, ◌<◌, ◌≤◌, max, map, length, get_or, sym, subst, arith}
-use Rattle.std.specs.List.{AllByRecursion as All}
+use Rattle.std.specs.List.{AllByRecursion}
 use Rattle.problem.specs.Rules.{rule_of}
 use Rattle.problem.specs.Timetables.{choices, option}
 use Rattle.network.specs.Limits.{Lawful}
@@ -27,10 +27,10 @@ push-option-requires g c =
     let n = count rs in
     let more = c.requires.more in
     let few = fits rs ns c.requires.placed in
-    let lawful : All (Lawful m.day) (choice_limits (get_or (choices (get_or (map rule_of rs) i r)) (get_or ns i 0) no_choice)) = choice_lawful m.day (map rule_of rs) c.requires.fit i (get_or ns i 0) r (omega arith) in
+    let lawful : AllByRecursion (Lawful m.day) (choice_limits (get_or (choices (get_or (map rule_of rs) i r)) (get_or ns i 0) no_choice)) = choice_lawful m.day (map rule_of rs) c.requires.fit i (get_or ns i 0) r (omega arith) in
     let same = some_option (get_or (choices r) (get_or ns i 0) no_choice) c.in-Some.option (sym c.in-Some.ensures) in
     record {
-      lawful = subst (λ ch. All (Lawful m.day) (choice_limits ch)) same (subst (λ q. All (Lawful m.day) (choice_limits (get_or (choices q) (get_or ns i 0) no_choice))) (rule_at rs i c.index-rules-i.result more c.index-rules-i.is r) lawful);
+      lawful = subst (λ ch. AllByRecursion (Lawful m.day) (choice_limits ch)) same (subst (λ q. AllByRecursion (Lawful m.day) (choice_limits (get_or (choices q) (get_or ns i 0) no_choice))) (rule_at rs i c.index-rules-i.result more c.index-rules-i.is r) lawful);
       room = loaded_room m.day (map rule_of rs) ns i m (omega arith) (loaded_at m.day (map rule_of rs) ns (max i c.args.depth) i m (omega arith) c.requires.loaded);
     }
 

@@ -1,5 +1,5 @@
 use Rattle.std.proofs.Common.{◌≡◌, [], ◌∷◌, sym, subst₂}
-use Rattle.std.specs.List.{AllByRecursion as All}
+use Rattle.std.specs.List.{AllByRecursion}
 use Rattle.network.specs.Limits.{Lawful}
 use Rattle.planner.specs.Loading.{Put}
 use Rattle.planner.proofs.load.push_option.Goals as goal
@@ -11,7 +11,7 @@ pub push-both-requires : goal.push-both-requires
 push-both-requires g c =
     let m = g.N.Network.net c.args.network.now in
     record {
-      lawful = subst₂ (λ a b. All (Lawful m.day) (a ∷ (b ∷ []))) (sym c.upper-limit-upper.ensures) (sym c.lower-limit-lower.ensures) c.requires.lawful;
+      lawful = subst₂ (λ a b. AllByRecursion (Lawful m.day) (a ∷ (b ∷ []))) (sym c.upper-limit-upper.ensures) (sym c.lower-limit-lower.ensures) c.requires.lawful;
       room = c.requires.room;
     }
 
