@@ -1,9 +1,8 @@
 -- Chains back to event 0 show the smallest minutes.
-use Rattle.std.proofs.Common.{◌≡◌, ℕ, zero, suc, ◌+◌, ◌<◌, ◌≤◌, Bool, true, false, ◌&&◌, eqb, List, [], ◌∷◌, length, ℤ, pos, neg_ℤ, ◌≤ℤ◌, sym, refl, ap, subst, le_of_suc-le-suc, arith}
+use Rattle.std.proofs.Common.{◌≡◌, ℕ, zero, suc, ◌+◌, ◌<◌, ◌≤◌, true, false, ◌&&◌, eqb, List, [], ◌∷◌, length, pos, neg_ℤ, ◌≤ℤ◌, refl, subst, le_of_suc-le-suc, arith}
 use lib.Signed.{le_z}
 use Rattle.std.proofs.lemmas.Int.{ints}
 use Rattle.std.proofs.lemmas.Bool.{and_parts, both_ways, eqb-true}
-use Rattle.problem.specs.Rules.{Rule}
 use Rattle.problem.specs.Timetables.{minute, gap}
 use Rattle.problem.specs.declared.day.Day.{Day}
 use Rattle.network.specs.Nets.{Solves}
@@ -11,7 +10,7 @@ use Rattle.network.specs.declared.limit.Limit.{Limit}
 use Rattle.search.specs.Limiting.{prefix_limits}
 use Rattle.search.specs.Tests.{every}
 use Rattle.search.proofs.Limiting.{met_solves}
-use Rattle.certificates.specs.Certificates.{stated, chained, met, chains_from, smallest}
+use Rattle.certificates.specs.Certificates.{stated, chained, met, chains_from}
 use Rattle.certificates.specs.Rings.{total}
 use Rattle.certificates.specs.Theorems.{ChainsSmallest}
 use Rattle.certificates.proofs.Rings.{chain_total}

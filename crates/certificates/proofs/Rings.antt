@@ -1,14 +1,14 @@
 -- What a chain of limits says of every timetable.
-use Rattle.std.proofs.Common.{◌≡◌, ℕ, ◌<◌, ◌≤◌, ◌⊎◌, List, [], ◌∷◌, ℤ, pos, ◌+ℤ◌, ◌-ℤ◌, ◌≤ℤ◌, ◌<ℤ◌, sym, refl, ap, subst, subst₂, inl, inr, arith}
-use Rattle.std.specs.List.{ContainsAt, AllByRecursion}
-use Rattle.std.proofs.ByRecursion.{all-has, All-weaker}
+use Rattle.std.proofs.Common.{◌≡◌, ℕ, ◌<◌, ◌≤◌, List, [], ◌∷◌, pos, ◌≤ℤ◌, ◌<ℤ◌, sym, ap, subst, inl, inr, arith}
+use Rattle.std.specs.List.{AllByRecursion}
+use Rattle.std.proofs.ByRecursion.{all-has}
 use Rattle.std.proofs.lemmas.Int.{ints}
-use Rattle.problem.specs.Timetables.{OfDay, gap}
+use Rattle.problem.specs.Timetables.{gap}
 use Rattle.problem.specs.declared.day.Day.{Day}
 use Rattle.network.specs.Limits.{Keeps}
 use Rattle.network.specs.Nets.{Solves}
 use Rattle.network.specs.declared.limit.Limit.{Limit}
-use Rattle.certificates.specs.Rings.{at_horizon, after_start, Stated, Chain, total, Ring}
+use Rattle.certificates.specs.Rings.{at_horizon, after_start, Stated, Chain, total}
 use Rattle.certificates.specs.Theorems.{RingClashes}
 
 module _ (day : Day) (ls : List Limit) (T : ℕ → ℕ) (solves : Solves (record { day = day; limits = ls }) T) where

@@ -1,22 +1,21 @@
 -- Checked certificates are steps.
-use Rattle.std.proofs.Common.{◌≡◌, ℕ, zero, suc, ◌-◌, ◌<◌, ◌≤◌, Bool, true, false, not, ◌&&◌, ◌||◌, leb, ◌⊎◌, List, [], ◌∷◌, length, take, Some, None, Option, sym, refl, ap, subst, inl, inr, le_refl, arith}
+use Rattle.std.proofs.Common.{◌≡◌, ℕ, suc, ◌-◌, ◌<◌, Bool, true, false, not, ◌||◌, leb, List, [], ◌∷◌, length, take, Some, None, Option, refl, subst, inl, inr, arith}
 use Rattle.std.proofs.lemmas.List.{take-take}
-use Rattle.std.proofs.lemmas.Bool.{and_parts, or_cases, both_ways, leb-true, not-true}
+use Rattle.std.proofs.lemmas.Bool.{and_parts, both_ways, leb-true, not-true}
 use Rattle.counting.specs.Ways.{Way}
 use Rattle.problem.specs.Rules.{Rule}
 use Rattle.problem.specs.Timetables.{minute}
 use Rattle.problem.specs.declared.day.Day.{Day}
-use Rattle.network.specs.declared.limit.Limit.{Limit}
 use Rattle.search.specs.Limiting.{prefix_limits}
 use Rattle.search.specs.Selections.{Feasible}
-use Rattle.search.specs.Searches.{State, Outdone, Hopeful, First, Step, After, Ended}
-use Rattle.search.specs.Tests.{every, selects, before}
+use Rattle.search.specs.Searches.{State, Outdone, Hopeful, First, Step, After}
+use Rattle.search.specs.Tests.{selects, before}
 use Rattle.search.proofs.Choosing.{feasible_take}
 use Rattle.search.proofs.Limiting.{met_solves}
 use Rattle.search.proofs.Moves.{skips, keeps}
 use Rattle.search.proofs.Testing.{selects_selection, before_true}
-use Rattle.certificates.specs.Certificates.{Certificate, enumerated, below, met, ringed, outdone, is_first, hopeful_below, valid, moved, reached, checked, fresh, counted}
-use Rattle.certificates.specs.Theorems.{CertificatesStep, EnumerationEnds}
+use Rattle.certificates.specs.Certificates.{Certificate, met, outdone, is_first, hopeful_below, valid, moved, reached, checked, fresh, counted}
+use Rattle.certificates.specs.Theorems.{EnumerationEnds}
 use Rattle.certificates.proofs.Rings.{ring_clashes}
 use Rattle.certificates.proofs.Testing.{every_selection, below_each, met_true, ringed_true}
 

@@ -1,17 +1,17 @@
 -- What the tests of certificates say.
-use Rattle.std.proofs.Common.{◌≡◌, ℕ, zero, suc, ◌+◌, ◌-◌, ◌<◌, ◌≤◌, Bool, true, false, not, ◌&&◌, ◌||◌, eqb, ltb, leb, ◌⊎◌, List, [], ◌∷◌, ◌++◌, map, length, get_or, ℤ, pos, ◌≤ℤ◌, ◌<ℤ◌, sym, refl, ap, subst, ap₂, inl, inr, suc-le-suc, zero-le, le_refl, le_of_suc-le-suc, arith}
-use lib.Signed.{le_z, lt_z}
+use Rattle.std.proofs.Common.{◌≡◌, ℕ, zero, suc, ◌+◌, ◌<◌, ◌≤◌, Bool, true, false, ◌&&◌, eqb, ltb, leb, List, [], ◌∷◌, ◌++◌, map, length, ℤ, pos, ◌≤ℤ◌, ◌<ℤ◌, sym, refl, subst, inl, inr, suc-le-suc, zero-le, le_of_suc-le-suc, arith}
+use lib.Signed.{le_z}
 use Rattle.std.specs.List.{range_with_len, ContainsAt, flat_map, AllByRecursion}
 use Rattle.std.proofs.lemmas.Int.{ints}
-use Rattle.std.proofs.lemmas.Bool.{and_parts, or_cases, or_right, or_left, both_ways, ltb-true, leb-true, eqb-true, lt-ltb, eq-eqb, and_from, cases_eq}
+use Rattle.std.proofs.lemmas.Bool.{and_parts, or_cases, both_ways, ltb-true, leb-true, eqb-true, and_from, cases_eq}
 use Rattle.problem.specs.Rules.{Rule}
-use Rattle.problem.specs.Timetables.{OfDay, Choice, option, give_up, choices, gap, Chosen, minute}
+use Rattle.problem.specs.Timetables.{choices, minute}
 use Rattle.problem.specs.declared.day.Day.{Day}
 use Rattle.network.specs.declared.limit.Limit.{Limit}
 use Rattle.search.specs.Selections.{Selection, picked, Met}
-use Rattle.search.specs.Tests.{every, chosen}
+use Rattle.search.specs.Tests.{every}
 use Rattle.search.proofs.Testing.{at_most, every_all, every_chosen}
-use Rattle.certificates.specs.Rings.{at_horizon, after_start, Stated, Chain, total, Ring}
+use Rattle.certificates.specs.Rings.{at_horizon, Stated, Chain, total, Ring}
 use Rattle.certificates.specs.Certificates.{enumerated, below, met, equal_integers, same_limit, among, stated, chained, ringed}
 
 module _ {X : Type 0} (p : X → Bool) where

@@ -4,7 +4,7 @@
 --   Chain            each limit starts at the event where the one before it ended
 --   total            the bounds added up
 --   Ring             a chain that comes back to where it started, with a total below 0
-use Rattle.std.specs.Prelude.{◌≡◌, ℕ, ◌<◌, ◌⊎◌, List, [], ◌∷◌, ◌++◌, ℤ, pos, ◌+ℤ◌, ◌<ℤ◌}
+use Rattle.std.specs.Prelude.{◌≡◌, ℕ, ◌<◌, ◌⊎◌, List, [], ◌∷◌, ℤ, pos, ◌+ℤ◌, ◌<ℤ◌}
 use Rattle.std.specs.List.{ContainsAt, AllByRecursion}
 use Rattle.problem.specs.declared.day.Day.{Day}
 use Rattle.network.specs.declared.limit.Limit.{Limit}

@@ -1,12 +1,11 @@
 -- What searches that go astray do.
-use Rattle.std.proofs.Common.{◌≡◌, ℕ, zero, suc, ◌<◌, ◌≤◌, true, false, ◌⊎◌, List, [], ◌∷◌, length, take, Some, refl, inl, inr, not-suc-le-zero, arith, lit<, lit≤}
+use Rattle.std.proofs.Common.{ℕ, zero, suc, ◌<◌, false, List, [], ◌∷◌, take, refl, inl, inr, arith, lit≤}
 use lib.Signed.{le_z_yes}
-use Rattle.std.proofs.lemmas.List.{take-take}
 use Rattle.std.proofs.lemmas.Bool.{both_ways}
 use Rattle.counting.specs.Three.{sum, sum_way}
 use Rattle.problem.specs.Costs.{Costs}
 use Rattle.problem.specs.Timetables.{minute}
-use Rattle.search.specs.Searches.{State, Running, Ended}
+use Rattle.search.specs.Searches.{State}
 use Rattle.search.specs.Selections.{Feasible}
 use Rattle.search.specs.Tests.{skipped, taken}
 use Rattle.search.proofs.Choosing.{feasible_take}
@@ -16,7 +15,7 @@ use Rattle.certificates.specs.Certificates.{fresh}
 use Rattle.certificates.proofs.Stepping.{first_true, enumeration_ends}
 use Rattle.certificates.proofs.Testing.{met_true}
 use Rattle.small_books.specs.Books.{two_events, dearer_first, twice_the_same}
-use Rattle.small_books.specs.Variants.{HopefulAbove, StepAbove, AfterAbove, all_settled}
+use Rattle.small_books.specs.Variants.{HopefulAbove, StepAbove, AfterAbove}
 use Rattle.small_books.specs.Theorems.{AboveTakesThree, FirstPlanIsNotProved}
 
 -- a selection of two choices, or minutes of two events

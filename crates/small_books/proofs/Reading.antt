@@ -1,13 +1,11 @@
 -- From checked certificates to how a search ends.
-use Rattle.std.proofs.Common.{◌≡◌, ℕ, true, false, List, Some, None, Option, sym, refl, ap, ◌∙◌}
+use Rattle.std.proofs.Common.{◌≡◌, ℕ, true, List, Some, None, sym, refl, ap}
 use Rattle.counting.specs.Ways.{Way}
-use Rattle.counting.specs.declared.way.Shown.{Shown}
 use Rattle.problem.specs.Rules.{Rule}
-use Rattle.problem.specs.Timetables.{minute}
 use Rattle.problem.specs.declared.day.Day.{Day}
 use Rattle.network.specs.declared.limit.Limit.{Limit}
-use Rattle.search.specs.Outcomes.{TellsWord, Plan, kept_price, given_word, given_bits}
-use Rattle.search.specs.Searches.{State, Running, Unsettled}
+use Rattle.search.specs.Outcomes.{TellsWord, kept_price, given_word, given_bits}
+use Rattle.search.specs.Searches.{State, Unsettled}
 use Rattle.search.specs.Selections.{price}
 use Rattle.search.specs.Tests.{every, selects}
 use Rattle.search.specs.declared.word.Word.{Word}

@@ -1,5 +1,5 @@
 -- The steps of the small books, as certificates.
-use Rattle.std.proofs.Common.{◌≡◌, ℕ, List, [], ◌∷◌, ℤ, pos, neg_ℤ, refl}
+use Rattle.std.proofs.Common.{ℕ, List, [], ◌∷◌, pos, neg_ℤ, refl}
 use Rattle.counting.specs.Three.{sum_way, worst_way, tier_way}
 use Rattle.network.specs.declared.limit.Limit.{Limit}
 use Rattle.example.specs.Example.{example_rules}

@@ -4,11 +4,10 @@
 --   first_at, firmly                               to write rules with
 --   five_and_six, exactly, together, round_robin, two_against_one, breach_or_points, dearer_first, twice_the_same
 --                                                  the rules of the books
-use Rattle.std.specs.Prelude.{ℕ, ◌≤◌, List, [], ◌∷◌, ℤ, pos}
-use Rattle.std.proofs.Common.{arith, lit≤}
+use Rattle.std.specs.Prelude.{ℕ, ◌≤◌, List, [], ◌∷◌, pos}
+use Rattle.std.proofs.Common.{lit≤}
 use Rattle.problem.specs.Rules.{Rule}
 use Rattle.problem.specs.declared.constraint.Disjunct.{Disjunct}
-use Rattle.problem.specs.declared.constraint.Kind.{Kind}
 use Rattle.problem.specs.declared.constraint.Kind.TheVariants.{Firm, Wish}
 use Rattle.problem.specs.declared.day.Day.{Day}
 use Rattle.example.specs.Example.{gap, stated, wish_for}

@@ -3,7 +3,6 @@
 --   Without      after so many steps, with the word NONE
 use Rattle.std.specs.Prelude.{◌≡◌, ℕ, List, Some}
 use Rattle.counting.specs.Ways.{Way}
-use Rattle.counting.specs.declared.way.Shown.{Shown}
 use Rattle.problem.specs.Rules.{Rule}
 use Rattle.problem.specs.Timetables.{minute}
 use Rattle.problem.specs.declared.day.Day.{Day}

@@ -1,5 +1,5 @@
 -- How the searches of the small books end.
-use Rattle.std.specs.Prelude.{ℕ, List, [], ◌∷◌}
+use Rattle.std.specs.Prelude.{[], ◌∷◌}
 use Rattle.counting.specs.Three.{sum_way, worst_way, tier_way}
 use Rattle.example.specs.Example.{example_rules}
 use Rattle.search.specs.Searches.{State, Running, Ended}
