@@ -1,5 +1,5 @@
 -- The word of the rules given up, one rule after another.
-use Rattle.std.proofs.Common.{◌≡◌, ℕ, zero, suc, ◌+◌, ◌*◌, ◌%◌, ◌^◌, ◌<◌, ◌≤◌, Bool, true, false, cond, List, [], ◌∷◌, map, length, get_or, take, sym, refl, ap, ◌∙◌, subst, ap₂, le_of_suc-le-suc, mul_assoc, mul-zero, mul-one, add-one, arith}
+use Rattle.std.proofs.Common.{◌≡◌, ℕ, zero, suc, ◌+◌, ◌*◌, ◌%◌, ◌^◌, ◌<◌, ◌≤◌, Bool, true, false, cond, List, [], ◌∷◌, length, get_or, take, sym, refl, ap, ◌∙◌, subst, le_of_suc-le-suc, mul_assoc, mul-zero, mul-one, add-one, arith}
 use lib.Bits.{bit_or, or_shifted_r}
 use Rattle.std.proofs.lemmas.Nat.{pow_pos, pow-add, one_shl}
 use Rattle.std.proofs.lemmas.Bool.{eq-eqb, ne_eqb}

@@ -1,10 +1,9 @@
 -- Facts on the choices of a rule, and on selections in arrays.
-use Rattle.std.proofs.Common.{◌≡◌, ℕ, zero, suc, ◌+◌, ◌-◌, ◌<◌, ◌≤◌, min, Bool, true, false, ◌&&◌, ltb, List, [], ◌∷◌, ◌++◌, map, length, get_or, take, replicate, Some, None, vec_items, Option, sym, refl, ap, ◌∙◌, subst, ap₂, le_of_suc-le-suc, add-one, arith}
-use Rattle.std.proofs.lemmas.List.{length-append, length-map, length-take, get_or_append_left, get_or-append_right, get_or-map, get_or_past, get_or-take, map-append}
+use Rattle.std.proofs.Common.{◌≡◌, ℕ, zero, suc, ◌+◌, ◌-◌, ◌<◌, ◌≤◌, true, ltb, List, [], ◌∷◌, ◌++◌, map, length, get_or, take, None, refl, ap, ◌∙◌, subst, ap₂, le_of_suc-le-suc, add-one, arith}
+use Rattle.std.proofs.lemmas.List.{length-append, length-map, length-take, get_or_append_left, get_or-append_right, get_or-map, get_or-take}
 use Rattle.std.proofs.lemmas.Bool.{and_parts, ltb-true, false≢true}
-use Rattle.problem.specs.Costs.{charge}
 use Rattle.problem.specs.Rules.{Rule}
-use Rattle.problem.specs.Timetables.{Choice, option, give_up, giving_up, choices}
+use Rattle.problem.specs.Timetables.{option, give_up, giving_up, choices}
 use Rattle.problem.specs.declared.constraint.Disjunct.{Disjunct}
 use Rattle.problem.specs.declared.constraint.Kind.{Kind}
 use Rattle.problem.specs.declared.constraint.Kind.TheVariants.{Firm, Wish}

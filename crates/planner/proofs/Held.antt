@@ -1,5 +1,5 @@
 -- What the ghost fields of a search say, how they are answered, and what a search tells.
-use Rattle.std.proofs.Common.{◌≡◌, ℕ, ◌<◌, ◌≤◌, Bool, true, false, cond, ◌||◌, ltb, List, [], ◌∷◌, length, get_or, take, replicate, is_some, Some, None, Option, sym, refl, ap, ◌∙◌, subst, arith}
+use Rattle.std.proofs.Common.{◌≡◌, ℕ, ◌<◌, ◌≤◌, Bool, true, false, ◌||◌, ltb, List, length, replicate, is_some, Some, None, sym, refl, ap, ◌∙◌, subst}
 use Rattle.std.specs.Option.{option_map}
 use Rattle.std.proofs.lemmas.Bool.{cond-true, lt-ltb, or_from}
 use Rattle.counting.specs.Ways.{Way}
@@ -8,16 +8,15 @@ use Rattle.problem.specs.Rules.{Rule}
 use Rattle.problem.specs.Timetables.{minute}
 use Rattle.problem.specs.declared.day.Day.{Day}
 use Rattle.problem.specs.Problems.{rules_of}
-use Rattle.search.specs.Outcomes.{TellsWord, Tells, kept_price, given_word, given_bits, Smallest}
+use Rattle.search.specs.Outcomes.{TellsWord, Tells, kept_price, given_word, given_bits}
 use Rattle.search.specs.Searches.{State, Start}
 use Rattle.search.specs.Selections.{picked, Met, price}
 use Rattle.search.specs.Tests.{every, chosen, selects, before}
 use Rattle.search.specs.declared.word.Word.{Word}
-use Rattle.search.specs.declared.word.Word.TheVariants as word
 use Rattle.search.proofs.Testing.{every_chosen, selects_selection}
 use Rattle.planner.specs.Calls.{read_checks, Reads, word_of}
 use Rattle.planner.specs.Choosing.{selection_in}
-use Rattle.planner.specs.Facts.{SoundPlan, SoundProgress, state_of}
+use Rattle.planner.specs.Facts.{SoundProgress, state_of}
 use Rattle.planner.specs.declared.progress.Plan.{Plan}
 use Rattle.planner.specs.declared.progress.Progress.{Progress}
 use Rattle.planner.specs.declared.states.Search.{Search}
@@ -41,29 +40,24 @@ held s = record {
 module _ (day : Day) (rules : List Rule) (p : Progress) where
   -- the ghost fields of a search
   abbrev pub HeldFacts : Type 0
-  HeldFacts =
-      (selects rules (selection_in rules p.position) ≡ true)
-      × (((plan : Plan) → p.plan ≡ Some plan → selects rules (selection_in rules plan.choices) ≡ true)
-      × (((plan : Plan) → p.plan ≡ Some plan → minute plan.minutes 0 ≡ 0)
-      × (((plan : Plan) (i : ℕ) → (p.plan ≡ Some plan) × (i < day.events) → minute plan.minutes i ≤ day.horizon)
-      × (((plan : Plan) → p.plan ≡ Some plan → every (chosen (minute plan.minutes)) (picked rules (selection_in rules plan.choices)) ≡ true)
-      × (((plan : Plan) (i : ℕ) (T : ℕ → ℕ) → (p.plan ≡ Some plan) × (i < day.events) × Met day rules T (selection_in rules plan.choices) → minute plan.minutes i ≤ T i)
-      × Unit {0})))))
+  HeldFacts = record {
+    placed : selects rules (selection_in rules p.position) ≡ true;
+    selected : (plan : Plan) → p.plan ≡ Some plan → selects rules (selection_in rules plan.choices) ≡ true;
+    starts : (plan : Plan) → p.plan ≡ Some plan → minute plan.minutes 0 ≡ 0;
+    ends : (plan : Plan) (i : ℕ) → (p.plan ≡ Some plan) × (i < day.events) → minute plan.minutes i ≤ day.horizon;
+    meets : (plan : Plan) → p.plan ≡ Some plan → every (chosen (minute plan.minutes)) (picked rules (selection_in rules plan.choices)) ≡ true;
+    lowest : (plan : Plan) (i : ℕ) (T : ℕ → ℕ) → (p.plan ≡ Some plan) × (i < day.events) × Met day rules T (selection_in rules plan.choices) → minute plan.minutes i ≤ T i;
+  }
 
   pub held_facts : SoundProgress day rules p → HeldFacts
-  held_facts s = (
-    s.placed,
-    (
-      λ plan e. (s.kept plan e).selection,
-      (
-        λ plan e. (s.kept plan e).starts,
-        (
-          λ plan i h. (s.kept plan h.0).ends i h.1,
-          (λ plan e. (s.kept plan e).meets, (λ plan i T h. (s.kept plan h.0).lowest i T (h.1, h.2), tt)),
-        ),
-      ),
-    ),
-  )
+  held_facts s = record {
+    placed = s.placed;
+    selected = λ plan e. (s.kept plan e).selection;
+    starts = λ plan e. (s.kept plan e).starts;
+    ends = λ plan i h. (s.kept plan h.0).ends i h.1;
+    meets = λ plan e. (s.kept plan e).meets;
+    lowest = λ plan i T h. (s.kept plan h.0).lowest i T (h.1, h.2);
+  }
 
 -- nothing is settled yet, and nothing kept
 module _ (day : Day) (rules : List Rule) (some : SomeChoice rules) (few : length rules ≤ 32) where

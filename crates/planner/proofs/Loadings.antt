@@ -1,25 +1,24 @@
 -- What is loaded, as choices come and go.
-use Rattle.std.proofs.Common.{◌≡◌, ℕ, zero, suc, ◌+◌, ◌-◌, ◌*◌, ◌<◌, ◌≤◌, min, max, Bool, true, false, cond, ltb, ◌⊎◌, List, [], ◌∷◌, ◌++◌, map, length, get_or, take, Some, None, Ok, Err, Option, Result, sym, refl, ap, ◌∙◌, subst, ap₂, inl, inr, arith}
-use Rattle.std.specs.List.{flat_map, AllByRecursion}
-use Rattle.std.proofs.ByRecursion.{All-get_or}
-use Rattle.std.proofs.lemmas.List.{append_assoc, append-nil, length-append, length-take, flat_map_more, same_from_push, take-take, take_all}
+use Rattle.std.proofs.Common.{◌≡◌, ℕ, ◌+◌, ◌*◌, ◌<◌, ◌≤◌, max, Bool, true, false, ltb, List, [], ◌∷◌, ◌++◌, length, get_or, take, Some, None, Ok, Err, Option, Result, sym, refl, ap, ◌∙◌, subst, inl, inr, arith}
+use Rattle.std.specs.List.{flat_map}
+use Rattle.std.proofs.lemmas.List.{append_assoc, append-nil, length-append, length-take, flat_map_more, same_from_push, take-take}
 use Rattle.std.proofs.lemmas.Bool.{cond-true, lt-ltb}
 use Rattle.problem.specs.Checks.{first_refusal, two_events, in_range}
 use Rattle.problem.specs.Rules.{Rule}
-use Rattle.problem.specs.Timetables.{OfDay, Choice, option, give_up, choices}
+use Rattle.problem.specs.Timetables.{Choice, option, give_up, choices}
 use Rattle.problem.specs.declared.constraint.Disjunct.{Disjunct}
 use Rattle.problem.specs.declared.day.Day.{Day}
 use Rattle.problem.specs.declared.refusal.Refusal.{Refusal}
-use Rattle.network.specs.Calls.{with_limit, refusal_before, Granted, Clashing, Pushed, Popped}
-use Rattle.network.specs.Limits.{max_limits, Lawful, limit_checks, Keeps}
+use Rattle.network.specs.Calls.{with_limit, refusal_before, Granted, Pushed, Popped}
+use Rattle.network.specs.Limits.{max_limits, Lawful, limit_checks}
 use Rattle.network.specs.Nets.{Net, Solves, Unsolvable}
 use Rattle.network.specs.declared.limit.Limit.{Limit}
 use Rattle.network.proofs.Solutions.{shorter_solvable}
 use Rattle.search.specs.Limiting.{choice_limits, prefix_limits, prefix_net}
-use Rattle.search.specs.Selections.{no_choice, picked, Fit, Feasible}
+use Rattle.search.specs.Selections.{no_choice, picked, Feasible}
 use Rattle.search.proofs.Choosing.{feasible_take}
 use Rattle.search.proofs.Limiting.{met_solves, solves_met}
-use Rattle.planner.specs.Choosing.{as_option, selection_in}
+use Rattle.planner.specs.Choosing.{as_option}
 use Rattle.planner.specs.Loading.{Loaded, with_limits, Put, Without, Grown}
 use Rattle.planner.proofs.Choosing.{picked_more, picked_none}
 

@@ -1,11 +1,11 @@
 -- The next selection in the order of selections.
-use Rattle.std.proofs.Common.{◌≡◌, ℕ, zero, suc, ◌+◌, ◌-◌, ◌<◌, ◌≤◌, Bool, true, false, ◌&&◌, ◌||◌, eqb, ltb, ◌⊎◌, List, [], ◌∷◌, ◌++◌, length, get_or, take, replicate, sym, refl, ap, ◌∙◌, subst, ap₂, inl, inr, le_of_suc-le-suc, arith}
+use Rattle.std.proofs.Common.{◌≡◌, ℕ, zero, suc, ◌+◌, ◌<◌, ◌≤◌, Bool, true, false, ◌&&◌, ◌||◌, eqb, ltb, ◌⊎◌, List, [], ◌∷◌, length, get_or, take, replicate, sym, refl, ◌∙◌, subst, inl, inr, le_of_suc-le-suc, arith}
 use Rattle.std.proofs.lemmas.Bool.{and_parts, and_from, and_left, and_right, or_left, or_right, or_from, lt-ltb, le-ltb, eq-eqb, ne_eqb, ltb-true, false≢true, cases_order}
 use Rattle.std.specs.List.{AllByRecursion}
 use Rattle.problem.specs.Rules.{Rule}
 use Rattle.problem.specs.Timetables.{choices}
 use Rattle.search.specs.Tests.{selects, before, same_numbers}
-use Rattle.planner.specs.Advancing.{LastFrom, raised, Advanced}
+use Rattle.planner.specs.Advancing.{raised}
 use Rattle.planner.specs.Choosing.{width_at}
 use Rattle.planner.proofs.Choosing.{selects_length}
 

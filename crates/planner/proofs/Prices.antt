@@ -1,5 +1,5 @@
 -- Prices along a selection, and hopeless prefixes.
-use Rattle.std.proofs.Common.{◌≡◌, ℕ, zero, suc, ◌+◌, ◌<◌, ◌≤◌, true, ◌⊎◌, List, [], ◌∷◌, ◌++◌, map, length, get_or, take, fold, Option, sym, refl, ap, ◌∙◌, subst, ap₂, inl, inr, arith}
+use Rattle.std.proofs.Common.{◌≡◌, ℕ, zero, suc, ◌+◌, ◌<◌, ◌≤◌, true, List, [], ◌∷◌, ◌++◌, map, length, get_or, take, fold, Option, sym, ap, ◌∙◌, subst, ap₂, inl, inr, arith}
 use Rattle.std.proofs.lemmas.List.{map_push}
 use Rattle.std.proofs.lemmas.List.Sums.{fold_push}
 use Rattle.std.proofs.lemmas.Bool.{cases_eq}
@@ -14,7 +14,7 @@ use Rattle.search.specs.Selections.{no_choice, picked, Feasible, price}
 use Rattle.search.specs.Tests.{selects}
 use Rattle.planner.specs.Choosing.{selection_in}
 use Rattle.planner.specs.Probing.{Beaten, HopelessAt, HopefulAt}
-use Rattle.planner.proofs.Choosing.{picked_more, picked_none}
+use Rattle.planner.proofs.Choosing.{picked_more}
 use Rattle.planner.proofs.Reading.{count, rule_at, fits}
 
 pub price_none : {C : Type 0} (way : Way C) (rules : List Rule) (c : C) → c ≡ way.zero → c ≡ price way rules []

@@ -1,9 +1,9 @@
 -- Raising one choice: where, and what the array then holds.
-use Rattle.std.proofs.Common.{◌≡◌, ℕ, zero, suc, ◌+◌, ◌-◌, ◌<◌, ◌≤◌, Bool, true, false, ◌||◌, ◌⊎◌, List, [], ◌∷◌, ◌++◌, map, length, get_or, take, set, replicate, sym, refl, ap, ◌∙◌, subst, ap₂, inl, inr, le_of_suc-le-suc, add-one, arith}
-use Rattle.std.proofs.lemmas.List.{append_assoc, take_all, take_more_set, replicate_more, length-take-le, get_or-take, take-take, length-set, take-set, take-append-le}
+use Rattle.std.proofs.Common.{◌≡◌, ℕ, zero, suc, ◌+◌, ◌-◌, ◌<◌, ◌≤◌, true, false, List, [], ◌∷◌, ◌++◌, length, get_or, take, set, replicate, sym, refl, ap, ◌∙◌, subst, ap₂, inl, inr, le_of_suc-le-suc, add-one, arith}
+use Rattle.std.proofs.lemmas.List.{append_assoc, take_all, take_more_set, replicate_more, length-take-le, get_or-take}
 use Rattle.std.proofs.lemmas.Bool.{cases_eq}
 use Rattle.problem.specs.Rules.{Rule}
-use Rattle.search.specs.Tests.{selects, before, same_numbers}
+use Rattle.search.specs.Tests.{selects, before}
 use Rattle.planner.specs.Advancing.{LastFrom, raised, Advanced}
 use Rattle.planner.specs.Choosing.{selection_in, width_at}
 use Rattle.planner.proofs.Choosing.{long}

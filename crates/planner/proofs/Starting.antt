@@ -1,7 +1,6 @@
 -- A network that was given a day, with nothing loaded.
-use Rattle.std.proofs.Common.{◌≡◌, ℕ, ◌≤◌, true, cond, ◌&&◌, leb, List, [], Some, None, Ok, Err, Option, Result, sym, refl, ap, ◌∙◌, subst, arith, MatchResult}
+use Rattle.std.proofs.Common.{◌≡◌, ℕ, ◌≤◌, ◌&&◌, leb, List, Some, None, Ok, Err, Result, refl, ap, ◌∙◌, subst, MatchResult}
 use native.Mathlib.Bridge.{le_prop}
-use Rattle.std.specs.Option.{option_map}
 use Rattle.std.specs.Result.{result_err}
 use Rattle.std.proofs.lemmas.Bool.{cond-true, and_from, le-leb}
 use Rattle.problem.specs.Bounds.{max_events, max_horizon}

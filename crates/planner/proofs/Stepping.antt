@@ -1,20 +1,19 @@
 -- A step of the program is a step of the search.
-use Rattle.std.proofs.Common.{◌≡◌, ℕ, zero, suc, ◌+◌, ◌<◌, ◌≤◌, Bool, true, false, ◌&&◌, ◌||◌, eqb, ltb, ◌⊎◌, ◌↔◌, List, [], ◌∷◌, length, get_or, take, Some, None, Option, sym, refl, ap, ◌∙◌, subst, inl, inr, le_refl, arith}
+use Rattle.std.proofs.Common.{◌≡◌, ℕ, suc, ◌<◌, ◌≤◌, true, false, ◌&&◌, ◌||◌, eqb, ltb, ◌↔◌, List, [], ◌∷◌, length, get_or, take, Some, None, Option, sym, refl, ap, ◌∙◌, subst, inl, inr, arith}
 use mathlib.Core.Path.{subst⁻¹}
 use Rattle.std.specs.Option.{option_map}
-use Rattle.std.specs.List.{AllByRecursion}
 use Rattle.std.proofs.lemmas.List.{length-take-le, take-take, take_all}
-use Rattle.std.proofs.lemmas.Bool.{or_from, or_right, and_right, le-ltb, both_ways}
+use Rattle.std.proofs.lemmas.Bool.{or_from, or_right, and_right, le-ltb}
 use Rattle.counting.specs.Ways.{Way}
 use Rattle.problem.specs.Rules.{Rule}
-use Rattle.problem.specs.Timetables.{OfDay, minute, Chosen}
+use Rattle.problem.specs.Timetables.{minute}
 use Rattle.problem.specs.declared.day.Day.{Day}
-use Rattle.network.specs.Nets.{Net, Earliest, Solves}
+use Rattle.network.specs.Nets.{Net, Earliest}
 use Rattle.network.proofs.Solutions.{smallest_solve}
 use Rattle.search.specs.Limiting.{prefix_net}
-use Rattle.search.specs.Searches.{State, Settled, Outdone, Hopeless, Hopeful, First, Settles, Skips, Keeps, Step}
-use Rattle.search.specs.Selections.{Selection, Fit, Met, Feasible, price, picked}
-use Rattle.search.specs.Tests.{selects, before, same_numbers, every, chosen}
+use Rattle.search.specs.Searches.{Outdone, Hopeless, Hopeful, First, Settles, Step}
+use Rattle.search.specs.Selections.{Selection, Fit, Met, price, picked}
+use Rattle.search.specs.Tests.{selects, before, same_numbers}
 use Rattle.search.proofs.Limiting.{met_solves, solves_met, prefix_lawful}
 use Rattle.search.proofs.Moves.{or_same}
 use Rattle.search.proofs.Testing.{selects_selection, selection_selects, before_true, chosen_every}
@@ -23,7 +22,7 @@ use Rattle.planner.specs.Choosing.{selection_in}
 use Rattle.planner.specs.Facts.{SoundPlan, SoundProgress, state_of}
 use Rattle.planner.specs.Loading.{Loaded}
 use Rattle.planner.specs.Probing.{Beaten, HopelessAt, HopefulAt, Probed}
-use Rattle.planner.specs.Stepping.{kept_best, Ready}
+use Rattle.planner.specs.Stepping.{kept_best}
 use Rattle.planner.specs.declared.progress.Plan.{Plan}
 use Rattle.planner.specs.declared.progress.Progress.{Progress}
 use Rattle.planner.proofs.Choosing.{long}

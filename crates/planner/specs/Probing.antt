@@ -3,7 +3,7 @@
 --   Beaten        a price is kept and is at most another
 --   HopelessAt, HopefulAt   of a prefix, against the kept price
 --   Probed        the length of the shortest hopeless prefix, or none is
-use Rattle.std.specs.Prelude.{◌≡◌, ℕ, ◌<◌, ◌≤◌, ◌⊎◌, List, take, Some, None, Option}
+use Rattle.std.specs.Prelude.{ℕ, ◌<◌, ◌≤◌, ◌⊎◌, List, take, Some, None, Option}
 use Rattle.counting.specs.Ways.{Way, AtMost}
 use Rattle.problem.specs.Rules.{Rule}
 use Rattle.problem.specs.declared.day.Day.{Day}

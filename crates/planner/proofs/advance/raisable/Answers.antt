@@ -1,4 +1,4 @@
-use Rattle.std.proofs.Common.{◌≡◌, ◌+◌, ◌-◌, ◌<◌, ◌≤◌, map, length, sym, subst, arith}
+use Rattle.std.proofs.Common.{◌≡◌, ◌+◌, ◌-◌, ◌≤◌, map, length, subst, arith}
 use Rattle.problem.specs.Rules.{rule_of}
 use Rattle.planner.specs.Advancing.{LastFrom}
 use Rattle.planner.proofs.Raising.{last_more}

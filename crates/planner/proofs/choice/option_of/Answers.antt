@@ -1,4 +1,4 @@
-use Rattle.std.proofs.Common.{◌≡◌, Some, sym, ap, ◌∙◌, arith}
+use Rattle.std.proofs.Common.{Some, sym, ap, ◌∙◌, arith}
 use Rattle.problem.specs.Rules.{rule_of}
 use Rattle.planner.specs.Choosing.{as_option}
 use Rattle.planner.proofs.Choosing.{choice_option, choice_none}

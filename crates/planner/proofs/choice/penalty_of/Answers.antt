@@ -1,4 +1,4 @@
-use Rattle.std.proofs.Common.{◌≡◌, ◌<◌, length, sym, ap, ◌∙◌, arith}
+use Rattle.std.proofs.Common.{◌<◌, length, sym, ap, ◌∙◌, arith}
 use Rattle.problem.specs.Costs.{charge}
 use Rattle.problem.specs.Rules.{rule_of}
 use Rattle.problem.specs.declared.constraint.Disjunct.{Disjunct}

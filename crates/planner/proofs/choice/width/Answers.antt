@@ -1,4 +1,4 @@
-use Rattle.std.proofs.Common.{◌≡◌, sym, ap, ◌∙◌, arith}
+use Rattle.std.proofs.Common.{arith}
 use Rattle.problem.specs.Rules.{rule_of}
 use Rattle.planner.proofs.Choosing.{width_firm, width_wish}
 use Rattle.planner.proofs.choice.width.Goals as goal

@@ -1,4 +1,4 @@
-use Rattle.std.proofs.Common.{◌≡◌, map, take, sym, ap, ◌∙◌, arith}
+use Rattle.std.proofs.Common.{map, take, sym, ap, ◌∙◌, arith}
 use Rattle.problem.specs.Rules.{rule_of}
 use Rattle.search.specs.Outcomes.{given_bits}
 use Rattle.planner.proofs.Bits.{bits_none, bits_set, bits_clear}
@@ -12,11 +12,11 @@ loop-r-init c = sym (bits_none (map rule_of c.args.rules.now))
 pub bounds-choices-r : goal.bounds-choices-r
 bounds-choices-r c = let few = fits c.args.rules.now c.args.choices.now c.requires in omega arith
 
-pub overflow-cast-word : goal.overflow-cast-word
-overflow-cast-word c = let few = fits c.args.rules.now c.args.choices.now c.requires in record { fits = omega arith }
+pub overflow_cast-word : goal.overflow_cast-word
+overflow_cast-word c = let few = fits c.args.rules.now c.args.choices.now c.requires in record { fits = omega arith }
 
-pub overflow-shl-word : goal.overflow-shl-word
-overflow-shl-word c = let few = fits c.args.rules.now c.args.choices.now c.requires in omega arith
+pub overflow_shl-word : goal.overflow_shl-word
+overflow_shl-word c = let few = fits c.args.rules.now c.args.choices.now c.requires in omega arith
 
 pub loop-r-preserved : goal.loop-r-preserved
 loop-r-preserved c =
@@ -29,8 +29,8 @@ loop-r-preserved c =
     let at = rule_at cs i c.index-rules-r.result c.loop-r-test.true c.index-rules-r.is in
     let size = c.index-rules-r.result.disjuncts.ok.0 in
     elim c.if-choices-r.branch [
-      | then-choices-r w ↦ w.word_is ∙ bits_set (map rule_of cs) ns i r (omega arith) (omega arith) at c.loop-r.word c.loop-r.invariant (omega arith) (omega (arith, w.if-choices-r.true))
-      | else-choices-r w ↦ w.word_is ∙ bits_clear (map rule_of cs) ns i r (omega arith) (omega arith) at c.loop-r.word c.loop-r.invariant (λ e. w.if-choices-r.false (omega arith))
+      | then-choices-r w ↦ w.word-is ∙ bits_set (map rule_of cs) ns i r (omega arith) (omega arith) at c.loop-r.word c.loop-r.invariant (omega arith) (omega (arith, w.if-choices-r.true))
+      | else-choices-r w ↦ w.word-is ∙ bits_clear (map rule_of cs) ns i r (omega arith) (omega arith) at c.loop-r.word c.loop-r.invariant (λ e. w.if-choices-r.false (omega arith))
     ]
 
 pub returns : goal.returns

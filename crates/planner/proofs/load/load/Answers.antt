@@ -1,7 +1,7 @@
-use Rattle.std.proofs.Common.{◌≡◌, ◌<◌, ◌≤◌, max, map, length, get_or, sym, subst, arith}
+use Rattle.std.proofs.Common.{max, map, get_or, sym, subst, arith}
 use Rattle.std.specs.List.{AllByRecursion}
 use Rattle.problem.specs.Rules.{rule_of}
-use Rattle.problem.specs.Timetables.{choices, option}
+use Rattle.problem.specs.Timetables.{choices}
 use Rattle.network.specs.Limits.{Lawful}
 use Rattle.search.specs.Limiting.{choice_limits}
 use Rattle.search.specs.Selections.{no_choice}
@@ -17,8 +17,8 @@ bounds-position-i g c =
     let more = c.requires.more in
     omega arith
 
-pub push-option-requires : goal.push-option-requires
-push-option-requires g c =
+pub push_option-requires : goal.push_option-requires
+push_option-requires g c =
     let rs = c.args.rules.now in
     let ns = c.args.position.now in
     let m = g.N.Network.net c.args.network.now in
@@ -45,8 +45,8 @@ returns-in-Some g c =
     let more = c.requires.more in
     let few = fits rs ns c.requires.placed in
     let same = some_option (get_or (choices r) (get_or ns i 0) no_choice) c.in-Some.option (sym c.in-Some.ensures) in
-    grown_put m.day (map rule_of rs) ns i r (omega arith) (omega arith) (rule_at rs i c.index-rules-i.result more c.index-rules-i.is) c.args.depth c.push-option.result m _ c.if-i-depth.false c.requires.loaded
-    (subst (λ ch. Put m (choice_limits ch) c.push-option.result (g.N.Network.net c.push-option.new.network)) (sym same) c.push-option.ensures)
+    grown_put m.day (map rule_of rs) ns i r (omega arith) (omega arith) (rule_at rs i c.index-rules-i.result more c.index-rules-i.is) c.args.depth c.push_option.result m _ c.if-i-depth.false c.requires.loaded
+    (subst (λ ch. Put m (choice_limits ch) c.push_option.result (g.N.Network.net c.push_option.new.network)) (sym same) c.push_option.ensures)
 
 pub returns-in-None : goal.returns-in-None
 returns-in-None g c =

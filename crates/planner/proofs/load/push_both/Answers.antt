@@ -6,7 +6,7 @@ returns-in-Err g c = put_none (g.N.Network.net c.args.network.now) _ c.args.firs
 
 pub returns-in-Err-push : goal.returns-in-Err-push
 returns-in-Err-push g c =
-    put_one (g.N.Network.net c.args.network.now) (g.N.Network.net c.push.new.self) (g.N.Network.net c.push-2.new.self) (g.N.Network.net c.pop.new.self) c.args.first c.args.second c.in-Err-push.field-0 c.pop.result c.requires.lawful.1.0 c.requires.room c.in-default.ensures c.in-Err-push.ensures c.pop.ensures
+    put_one (g.N.Network.net c.args.network.now) (g.N.Network.net c.push.new.self) (g.N.Network.net c.push-2.new.self) (g.N.Network.net c.pop.new.self) c.args.first c.args.second c.in-Err-push.field-0 c.pop.result c.requires.lawful.1.0 c.requires.room c.in_default.ensures c.in-Err-push.ensures c.pop.ensures
 
 pub returns : goal.returns
-returns g c = put_both (g.N.Network.net c.args.network.now) (g.N.Network.net c.push.new.self) (g.N.Network.net c.push-2.new.self) c.args.first c.args.second c.in-default.ensures c.in-default-push.ensures
+returns g c = put_both (g.N.Network.net c.args.network.now) (g.N.Network.net c.push.new.self) (g.N.Network.net c.push-2.new.self) c.args.first c.args.second c.in_default.ensures c.in_default-push.ensures

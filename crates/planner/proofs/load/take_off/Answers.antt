@@ -9,5 +9,5 @@ pub returns-in-Some : goal.returns-in-Some
 returns-in-Some g c =
     off_both (g.N.Network.net c.args.network.now) _ _ (get_or (choices (rule_of c.args.rule.now)) c.args.choice no_choice) c.in-Some.field-0 c.pop.result c.pop-in-Some.result (sym c.in-Some.ensures) c.pop.ensures c.pop-in-Some.ensures
 
-pub returns-in-default : goal.returns-in-default
-returns-in-default g c = off_none (g.N.Network.net c.args.network.now) (get_or (choices (rule_of c.args.rule.now)) c.args.choice no_choice) (sym c.in-default.ensures)
+pub returns-in_default : goal.returns-in_default
+returns-in_default g c = off_none (g.N.Network.net c.args.network.now) (get_or (choices (rule_of c.args.rule.now)) c.args.choice no_choice) (sym c.in_default.ensures)

@@ -1,4 +1,4 @@
-use Rattle.std.proofs.Common.{◌≡◌, ◌≤◌, min, map}
+use Rattle.std.proofs.Common.{◌≤◌, min, map}
 use Rattle.problem.specs.Rules.{rule_of}
 use Rattle.planner.specs.Loading.{Loaded}
 use Rattle.planner.proofs.load.unload.Given as goal

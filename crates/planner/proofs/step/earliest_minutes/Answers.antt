@@ -1,8 +1,8 @@
-use Rattle.std.proofs.Common.{◌≡◌, ℕ, ◌+◌, ◌<◌, ◌≢◌, List, length, get_or, set, sym, ap, ◌∙◌, subst, arith, below_more}
+use Rattle.std.proofs.Common.{◌≡◌, ℕ, ◌+◌, ◌<◌, ◌≢◌, List, length, get_or, set, sym, ◌∙◌, subst, arith, below_more}
 use Rattle.std.proofs.lemmas.List.{length-set, get_or-set_same, get_or-set_other}
 use Rattle.network.specs.Nets.{Net, Earliest}
 use Rattle.planner.proofs.step.earliest_minutes.Goals as goal
-use Rattle.planner.proofs.step.earliest_minutes.Goals.{in-Ok, in-default}
+use Rattle.planner.proofs.step.earliest_minutes.Goals.{in-Ok, in_default}
 
 -- one event more
 more : (m : Net) (ms : List ℕ) (k t : ℕ) → k < length ms → ((i : ℕ) → i < k → Earliest m i (get_or ms i 0)) → Earliest m k t
@@ -23,5 +23,5 @@ loop-event-preserved g c =
     elim c.match-earliest.branch [
       | in-Ok w ↦ subst (λ xs. (length xs ≡ 32) × ((i : ℕ) → i < k + 1 → Earliest m i (get_or xs i 0))) (sym w.minutes-is)
           (length-set ms k w.in-Ok.minute ∙ long, more m ms k w.in-Ok.minute (omega arith) c.loop-event.invariant.1 w.in-Ok.ensures.1)
-      | in-default w ↦ absurd (omega (arith, w.in-default.ensures.1))
+      | in_default w ↦ absurd (omega (arith, w.in_default.ensures.1))
     ]

@@ -1,4 +1,4 @@
-use Rattle.std.proofs.Common.{◌≡◌, map, sym, subst, add-one, arith}
+use Rattle.std.proofs.Common.{map, sym, subst, add-one, arith}
 use Rattle.problem.specs.Rules.{rule_of}
 use Rattle.search.specs.Searches.{Steps}
 use Rattle.planner.specs.Facts.{state_of}
@@ -15,5 +15,5 @@ loop-made-preserved g c =
       c.step.ensures.ready,
     )
 
-pub overflow-add-made : goal.overflow-add-made
-overflow-add-made g c = record { fits = omega (arith, c.ranges.limit.fits) }
+pub overflow_add-made : goal.overflow_add-made
+overflow_add-made g c = record { fits = omega (arith, c.ranges.limit.fits) }

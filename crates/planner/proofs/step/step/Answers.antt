@@ -1,9 +1,6 @@
 use Rattle.std.proofs.Common.{◌≡◌, ℕ, ◌<◌, map, length, get_or, Some, None, sym, refl, ap, ◌∙◌, subst}
 use Rattle.problem.specs.Rules.{rule_of}
-use Rattle.problem.specs.declared.day.Day.{Day}
 use Rattle.network.specs.Nets.{Net, Earliest}
-use Rattle.planner.specs.Advancing.{Advanced}
-use Rattle.planner.specs.Choosing.{selection_in}
 use Rattle.planner.specs.Loading.{Loaded}
 use Rattle.planner.specs.Probing.{Probed}
 use Rattle.planner.specs.declared.progress.Plan.{Plan}
@@ -52,11 +49,11 @@ returns-in-None g c =
     (subst (Probed way (g.N.Network.net c.args.network.now).day rs best p.position n) c.in-None.is c.probe-depth.ensures.probed) in
     let m = g.N.Network.net c.probe-depth.new.network in
     let day-after : m.day ≡ day = ap (λ (x : Net). x.day) c.probe-depth.ensures.loaded.loads ∙ day-before in
-    let plan : Plan = record { choices = p.position; minutes = c.earliest-minutes-minutes.result } in
+    let plan : Plan = record { choices = p.position; minutes = c.earliest_minutes-minutes.result } in
     let p' : Progress = record { position = c.turn-ended-in-None.new.position; ended = c.turn-ended-in-None.result.0; plan = Some plan } in
     let a = c.turn-ended-in-None.ensures.advanced in
     let least : (i : ℕ) → i < day.events → Earliest m i (get_or plan.minutes i 0) =
-    λ i l. c.earliest-minutes-minutes.ensures i (subst (λ k. i < k) (sym c.events.ensures) l) in
+    λ i l. c.earliest_minutes-minutes.ensures i (subst (λ k. i < k) (sym c.events.ensures) l) in
     let loaded : Loaded day rs p.position c.probe-depth.result.0 m = subst (λ d. Loaded d rs p.position c.probe-depth.result.0 m) day-before c.probe-depth.ensures.loaded in
     let all : c.probe-depth.result.0 ≡ length rs = c.probe-depth.ensures.whole c.in-None.is ∙ sym (count c.args.rules.now) in
     let good = plan_sound day rs c.requires.fit p.position c.probe-depth.result.0 m loaded all plan ready.sound.placed refl least in
@@ -64,7 +61,7 @@ returns-in-None g c =
       step = keep_step way day rs p best ready.price_is ready.sound.placed c.requires.running n p' plan (sym (count c.args.rules.now)) probed a refl refl;
       ready = record {
         sound = sound_kept day rs p' plan good a.0 refl;
-        price_is = ap Some c.price-of.ensures;
+        price_is = ap Some c.price_of.ensures;
         loaded = subst (λ d. Loaded d rs c.turn-ended-in-None.new.position c.turn-ended-in-None.result.1 (g.N.Network.net c.turn-ended-in-None.new.network)) day-after c.turn-ended-in-None.ensures.loaded;
       };
     }

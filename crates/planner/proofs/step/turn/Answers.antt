@@ -1,4 +1,4 @@
-use Rattle.std.proofs.Common.{◌≡◌, ◌<◌, ◌≤◌, false, map, length, take, sym, subst, arith}
+use Rattle.std.proofs.Common.{false, map, sym, subst, arith}
 use Rattle.problem.specs.Rules.{rule_of}
 use Rattle.planner.specs.Advancing.{Advanced, raised}
 use Rattle.planner.specs.Choosing.{selection_in}

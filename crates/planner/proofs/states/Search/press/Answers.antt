@@ -1,7 +1,5 @@
-use Rattle.std.proofs.Common.{◌≡◌, List, sym, refl, subst₂, arith, rules}
+use Rattle.std.proofs.Common.{sym, refl, subst₂, rules}
 use Rattle.std.proofs.lemmas.Bool.Decides.{nat_tests}
-use Rattle.problem.specs.Rules.{Rule}
-use Rattle.problem.specs.declared.day.Day.{Day}
 use Rattle.problem.specs.Problems.{rules_of}
 use Rattle.search.specs.Selections.{Fit}
 use Rattle.planner.specs.Facts.{SoundProgress, state_of}
@@ -17,8 +15,8 @@ run-made-requires g c =
       sound = subst₂ (λ d rs. SoundProgress d rs s.progress) (sym c.day-day.ensures) (sym c.rules.ensures) (held s);
     }
 
-pub invariant-of-self : goal.invariant-of-self
-invariant-of-self g c =
+pub invariant_of-self : goal.invariant_of-self
+invariant_of-self g c =
     let s = c.args.self.now in
     held_facts s.problem.day (rules_of s.problem) c.run-made.new.progress
     (subst₂ (λ d rs. SoundProgress d rs c.run-made.new.progress) c.day-day.ensures c.rules.ensures c.run-made.ensures.sound)
