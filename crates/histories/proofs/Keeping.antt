@@ -1,14 +1,13 @@
 -- What holds after every list of calls: rules fit their day, and a search has come to its state by steps from its start.
-use Rattle.std.proofs.Common.{◌≡◌, ℕ, zero, suc, ◌+◌, Bool, true, false, List, [], ◌∷◌, ◌++◌, Some, None, Option, sym, refl, ap, ◌∙◌, subst, arith}
-use Rattle.std.specs.List.{flat_map, remove}
+use Rattle.std.proofs.Common.{ℕ, zero, suc, List, sym, refl, subst}
 use Rattle.counting.specs.Ways.{Way}
-use Rattle.problem.specs.Checks.{Check, first_refusal, passes, rule_checks}
+use Rattle.problem.specs.Checks.{rule_checks}
 use Rattle.problem.specs.Rules.{Rule, rule_of}
 use Rattle.problem.specs.declared.day.Day.{Day}
 use Rattle.problem.proofs.Fit.{passes_all, passes_push}
 use Rattle.problem.specs.Problems.{rules_adopt_checks}
 use Rattle.problem.proofs.Said.{passes_removed}
-use Rattle.search.specs.Searches.{State, Step, Steps, After}
+use Rattle.search.specs.Searches.{State, Steps, After}
 use Rattle.search.specs.Selections.{Fit}
 use Rattle.histories.specs.Histories.{View, drafting, searching, Acts, Means, Made}
 use Rattle.histories.specs.declared.calls.Answer.{Answer}

@@ -1,6 +1,5 @@
 -- A search that calls led to can be trusted.
-use Rattle.std.proofs.Common.{◌≡◌, ℕ, ◌<◌, true, false, ◌⊎◌, ◌↔◌, List, Some, None, Option, sym, refl, ap, ◌∙◌, subst, inl, inr, arith}
-use Rattle.std.specs.List.Sorted.{IsPermutation}
+use Rattle.std.proofs.Common.{◌≡◌, ℕ, ◌⊎◌, ◌↔◌, List, Some, None, Option, sym, refl, ap, ◌∙◌, subst, inl, inr, arith}
 use Rattle.std.proofs.lemmas.Bool.{both_ways}
 use Rattle.counting.specs.Ways.{Way, AtMost, Laws}
 use Rattle.problem.specs.Costs.{Costs}
@@ -9,14 +8,13 @@ use Rattle.problem.specs.declared.day.Day.{Day}
 use Rattle.search.specs.Outcomes.{Plan, TellsWord, Tells, kept_price, Smallest}
 use Rattle.search.specs.Searches.{State, Running, Ended, After}
 use Rattle.search.specs.Selections.{Fit, price}
-use Rattle.search.specs.Theorems.{NoneAllowed, AllSmallest, Optimal, Verdict, Agree}
+use Rattle.search.specs.Theorems.{AllSmallest, Optimal, Agree}
 use Rattle.search.specs.declared.word.Word.{Word}
 use Rattle.search.specs.declared.word.Word.TheVariants as word
 use Rattle.search.proofs.Optimal.{verdict}
 use Rattle.search.proofs.Ranks.{ranked}
 use Rattle.search.proofs.Reordered.{agree}
 use Rattle.search.proofs.Sound.{no_cheaper}
-use Rattle.planner.specs.Calls.{Reads}
 use Rattle.histories.specs.Histories.{View, drafting, searching}
 use Rattle.histories.specs.Promises.{ReadAll, Best, Promise, Trusted, SameVerdict, Agreeing}
 use Rattle.histories.proofs.Keeping.{Kept}

@@ -1,11 +1,7 @@
-use Rattle.std.proofs.Common.{◌≡◌, List, sym, refl, ap, ◌∙◌, subst, ap₂}
-use Rattle.problem.specs.Rules.{Rule}
-use Rattle.problem.specs.declared.day.Day.{Day}
+use Rattle.std.proofs.Common.{◌≡◌, sym, refl, ap, ◌∙◌, subst, ap₂}
 use Rattle.problem.specs.Problems.{rules_of}
 use Rattle.problem.specs.declared.problems.Problem.{Problem}
-use Rattle.problem.specs.declared.problems.Unadopted.{Unadopted}
 use Rattle.planner.specs.Views.{search_state}
-use Rattle.planner.specs.declared.states.Draft.{Draft}
 use Rattle.search.specs.Searches.{Start}
 use Rattle.histories.specs.Histories.{View, drafting, searching, Acts}
 use Rattle.histories.specs.declared.calls.Answer.{Answer}

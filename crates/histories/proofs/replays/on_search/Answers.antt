@@ -1,9 +1,8 @@
-use Rattle.std.proofs.Common.{◌≡◌, sym, refl, ap, ◌∙◌, subst}
+use Rattle.std.proofs.Common.{sym, refl, ap}
 use Rattle.problem.specs.Problems.{rules_of}
 use Rattle.planner.specs.Views.{search_state}
 use Rattle.planner.specs.declared.states.Search.{Search}
 use Rattle.histories.specs.Histories.{View, drafting, searching, Acts}
-use Rattle.histories.specs.declared.calls.Answer.{Answer}
 use Rattle.histories.specs.declared.calls.Call.{Call}
 use Rattle.histories.proofs.Acting.{acts_at, misplaced_at}
 use Rattle.histories.proofs.replays.on_search.Goals as goal

@@ -5,8 +5,8 @@ use Rattle.histories.proofs.replays.replay_both.Goals as goal
 pub returns : goal.returns
 returns g c =
     let way = g.W.Counting.way in
-    let a = c.in-ok-first.ensures in
-    let b = c.in-ok-second.ensures in
+    let a = c.in_ok-first.ensures in
+    let b = c.in_ok-second.ensures in
     record {
       first = a.history;
       second = b.history;
