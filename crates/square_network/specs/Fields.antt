@@ -15,12 +15,16 @@ use Rattle.square_network.specs.Answered.{soonest, near}
 use Rattle.square_network.specs.Tables.{top, earliest, is_sound}
 
 -- the fields that speak of the limits and the tables
-abbrev pub Fields : Day → ℕ → List Limit → List (List ℤ) → Type 0
-Fields day c ls Ds =
-    Throughout (λ l. two_events day l.x l.y ≡ true) ls c
-    × (Throughout (λ l. in_range l.bound ≡ true) ls c
-    × (Sizes c Ds
-    × (Zeros day c Ds × (Triangles day c Ds × (Starts day c Ds × (Ends day c Ds × (AskedFor c ls Ds × (Necessary day c ls Ds × Unit {0}))))))))
+pub record Fields (day : Day) (c : ℕ) (ls : List Limit) (Ds : List (List ℤ)) : Type 0 where
+  pub events : Throughout (λ l. two_events day l.x l.y ≡ true) ls c
+  pub bounds : Throughout (λ l. in_range l.bound ≡ true) ls c
+  pub size : Sizes c Ds
+  pub same : Zeros day c Ds
+  pub triangle : Triangles day c Ds
+  pub first : Starts day c Ds
+  pub last : Ends day c Ds
+  pub tight : AskedFor c ls Ds
+  pub sound : Necessary day c ls Ds
 
 module _ (day : Day) (c : ℕ) (ls : List Limit) (Ds : List (List ℤ)) (held : Held day c ls Ds) where
   zeros : Zeros day c Ds
@@ -39,13 +43,17 @@ module _ (day : Day) (c : ℕ) (ls : List Limit) (Ds : List (List ℤ)) (held : 
   necessary k p T g = (held.short k g.0).sound T g.3 g.4 p.0 p.1 g.1 g.2
 
   pub fields : Fields day c ls Ds
-  fields = (
-    λ k lt. (held.lawful k lt).events,
-    (
-      λ k lt. (held.lawful k lt).bound,
-      (λ k le. (held.short k le).size, (zeros, (triangles, (starts, (ends, (λ k le. (held.short k le).tight, (necessary, tt))))))),
-    ),
-  )
+  fields = record {
+    events = λ k lt. (held.lawful k lt).events;
+    bounds = λ k lt. (held.lawful k lt).bound;
+    size = λ k le. (held.short k le).size;
+    same = zeros;
+    triangle = triangles;
+    first = starts;
+    last = ends;
+    tight = λ k le. (held.short k le).tight;
+    sound = necessary;
+  }
 
 module _ (s : SquareNetwork) where
   short_at : (k : ℕ) → k ≤ s.count → Shortest s.day s.limits k (table (vec_items s.tables) k)

@@ -40,7 +40,21 @@ invariant_of-self c =
     let back = way_back s l none c.shortest.result.now c.shortest.ensures in
     let D' = c.shortened-table.result in
     let held = held_after s l none c.shortest.result.now c.shortest.ensures (omega (arith, ints)) c.shortest-2.result.now c.shortest-2.ensures D' c.shortened-table.ensures in
-    (omega arith, (simp length-set s.places, (s.enough, fields s.day (s.count + 1) (set s.limits s.count l) (set (vec_items s.tables) (s.count + 1) D') held)))
+    let f = fields s.day (s.count + 1) (set s.limits s.count l) (set (vec_items s.tables) (s.count + 1) D') held in
+    record {
+      room = omega arith;
+      places = simp length-set s.places;
+      enough = s.enough;
+      events = f.events;
+      bounds = f.bounds;
+      size = f.size;
+      same = f.same;
+      triangle = f.triangle;
+      first = f.first;
+      last = f.last;
+      tight = f.tight;
+      sound = f.sound;
+    }
 
 pub returns : goal.returns
 returns c =
