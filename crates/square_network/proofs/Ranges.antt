@@ -30,3 +30,16 @@ module _ (day : Day) (D : List ℤ) (l : Limit) (near : Near day D) (lawful : La
       let p = to_limit_range i row in
       let q = near l.y j (lawful_y day l lawful) column in
       (p, (omega (arith, ints), omega (arith, ints)))
+
+  -- the limit's bound
+  pub bound_range : Within 10080 l.bound
+  bound_range = (lawful_low day l lawful, lawful_high day l lawful)
+
+  -- to the limit's ends, and from them
+  pub ends_range :
+      (i j : ℕ) → i < day.events → j < day.events
+      → Within 10080 (at D i l.x) × Within 10080 (at D i l.y) × Within 10080 (at D l.x j) × Within 10080 (at D l.y j)
+  ends_range i j row column =
+      let x = lawful_x day l lawful in
+      let y = lawful_y day l lawful in
+      (near i l.x row x, near i l.y row y, near l.x j x column, near l.y j y column)

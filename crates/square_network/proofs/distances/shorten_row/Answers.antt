@@ -1,18 +1,20 @@
 use Rattle.std.proofs.Common.{◌+◌, List, ℤ, sym, subst, arith}
 use Rattle.std.proofs.lemmas.Int.{ints}
-use Rattle.square_network.proofs.Ranges.{through_range}
+use Rattle.square_network.proofs.Ranges.{through_range, bound_range, ends_range}
 use Rattle.square_network.proofs.Rows.{PlacesDone, place_stays, place_shorter}
 use Rattle.square_network.proofs.distances.shorten_row.Goals as goal
 use Rattle.square_network.proofs.distances.shorten_row.Goals.{then-through-distance, else-through-distance}
 
 pub overflow_add-through : goal.overflow_add-through
 overflow_add-through c =
-    let range = through_range c.args.day c.args.table.now c.args.limit c.requires.near c.requires.lawful c.args.i c.loop-j.j c.requires.row (omega arith) in
+    let bound = bound_range c.args.day c.args.table.now c.args.limit c.requires.near c.requires.lawful in
+    let ends = ends_range c.args.day c.args.table.now c.args.limit c.requires.near c.requires.lawful c.args.i c.loop-j.j c.requires.row (omega arith) in
     omega (arith, ints)
 
 pub overflow_cast-short : goal.overflow_cast-short
 overflow_cast-short c =
-    let range = through_range c.args.day c.args.table.now c.args.limit c.requires.near c.requires.lawful c.args.i c.loop-j.j c.requires.row (omega arith) in
+    let bound = bound_range c.args.day c.args.table.now c.args.limit c.requires.near c.requires.lawful in
+    let ends = ends_range c.args.day c.args.table.now c.args.limit c.requires.near c.requires.lawful c.args.i c.loop-j.j c.requires.row (omega arith) in
     omega (arith, ints)
 
 pub loop-j-preserved : goal.loop-j-preserved

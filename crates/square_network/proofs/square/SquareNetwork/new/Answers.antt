@@ -15,7 +15,7 @@ invariant_of-result c =
     let made = c.in_ok-vec.ensures in
     let same : Ds ≡ replicate (max_limits + 1) D = made.items_if_clones_equal (λ E alike. clone_same D E alike.whole) in
     let kept : (n : ℕ) → n ≡ 0 → Fields day n ls Ds =
-        λ n none. fields day n ls Ds (held_new day n ls Ds D none same c.opened.ensures) in
+    λ n none. fields day n ls Ds (held_new day n ls Ds D none same c.opened.ensures) in
     record {
       room = omega arith;
       places = refl;

@@ -2,12 +2,16 @@ use Rattle.std.proofs.Common.{ℕ, subst, arith}
 use Rattle.std.proofs.lemmas.Int.{ints}
 use Rattle.network.specs.Nets.{Earliest}
 use Rattle.square_network.specs.Model.{modelled}
-use Rattle.square_network.specs.Fields.{start_range, earliest_is}
+use Rattle.square_network.specs.Fields.{near_last, start_range, earliest_is}
 use Rattle.square_network.proofs.square.calls.SquareNetworkNetwork.earliest.Goals as goal
 
 pub overflow_sub-result : goal.overflow_sub-result
 overflow_sub-result c =
-    let range = start_range c.args.self.now c.shortest.result.now c.shortest.ensures c.args.event (omega arith) in
+    let s = c.args.self.now in
+    let some = s.day.some in
+    let near = near_last s c.shortest.result.now c.shortest.ensures in
+    let to_start = near 0 c.args.event (omega arith) (omega arith) in
+    let from_start = near c.args.event 0 (omega arith) (omega arith) in
     omega (arith, ints)
 
 pub overflow_cast-result : goal.overflow_cast-result
