@@ -8,7 +8,7 @@ use Rattle.list_network.proofs.list.calls.ListNetworkNetwork.pop.Goals as goal
 pub invariant_of-self : goal.invariant_of-self
 invariant_of-self c =
     let s = c.args.self.now in
-    (omega arith, (s.sizes, facts s.day _ s.limits s.times (fewer _ _ _ _ (held s) _ (omega arith))))
+    facts s.day _ s.limits s.times (omega arith) s.sizes (fewer _ _ _ _ (held s) _ (omega arith))
 
 pub returns : goal.returns
 returns c =

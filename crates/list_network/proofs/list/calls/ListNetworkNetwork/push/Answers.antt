@@ -1,4 +1,4 @@
-use Rattle.std.proofs.Common.{◌+◌, set, ap, inr, arith}
+use Rattle.std.proofs.Common.{set, ap, inr, arith}
 use Rattle.std.proofs.lemmas.List.{length-set, take-set}
 use Rattle.list_network.specs.Held.{held, facts}
 use Rattle.list_network.proofs.Pushing.{still_few, still_stacked, longer_lawful, refused, grown, granted}
@@ -9,7 +9,7 @@ pub invariant_of-self : goal.invariant_of-self
 invariant_of-self c =
     let s = c.args.self.now in
     let stacked = still_stacked s c.args.limit c.in_ok-check_limit.ensures in
-    (s.few, ((simp length-set s.sizes.0, s.sizes.1), facts _ _ (set s.limits s.count c.args.limit) _ stacked))
+    facts _ _ (set s.limits s.count c.args.limit) _ s.few (simp length-set s.sizes.0, s.sizes.1) stacked
 
 pub settle-requires : goal.settle-requires
 settle-requires c =
@@ -31,7 +31,7 @@ invariant_of-self-2 c =
     let s = c.args.self.now in
     let few = still_few s c.args.limit c.in_ok-check_limit.ensures in
     let stacked = grown s c.args.limit c.in_ok-check_limit.ensures c.settle.new.times c.settle.auto.times c.if-not-settle.ensures in
-    (omega arith, ((simp length-set s.sizes.0, simp length-set s.sizes.1), facts _ _ _ _ (stacked _ (omega arith))))
+    facts _ _ _ _ (omega arith) (simp length-set s.sizes.0, simp length-set s.sizes.1) (stacked _ (omega arith))
 
 pub returns : goal.returns
 returns c =
