@@ -1,4 +1,4 @@
-use Rattle.std.proofs.Common.{get_or, ap, arith}
+use Rattle.std.proofs.Common.{ℕ, ◌-◌, get_or, ap, arith}
 use Rattle.network.specs.Prefixes.{nowhere}
 use Rattle.network.proofs.Prefixes.{without_last}
 use Rattle.list_network.specs.Held.{held, facts}
@@ -13,4 +13,5 @@ invariant_of-self c =
 pub returns : goal.returns
 returns c =
     let s = c.args.self.now in
-    (get_or s.limits _ nowhere, ap (net s.day) (without_last s.count _ s.limits (omega arith) (omega arith)))
+    let d : ℕ = s.count - 1 in
+    (get_or s.limits d nowhere, ap (net s.day) (without_last s.count d s.limits (omega arith) (omega arith)))
