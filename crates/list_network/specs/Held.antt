@@ -47,7 +47,9 @@ Facts day c ls tss =
       starts : (k : ℕ) → k ≤ c → minute (slice_index_or tss k []) 0 ≡ 0;
       within : (k i : ℕ) → (k ≤ c) × (i < day.events) → minute (slice_index_or tss k []) i ≤ day.horizon;
       keeps : (k : ℕ) → k ≤ c → Throughout (Keeps (minute (slice_index_or tss k []))) ls k;
-      lowest : (k i : ℕ) (T : ℕ → ℕ) → (k ≤ c) × OfDay day T × Throughout (Keeps T) ls k → minute (slice_index_or tss k []) i ≤ T i;
+      lowest :
+          (k i : ℕ) (T : ℕ → ℕ) → (k ≤ c) × OfDay day T × Throughout (Keeps T) ls k
+          → minute (slice_index_or tss k []) i ≤ T i;
     }
 
 pub facts :

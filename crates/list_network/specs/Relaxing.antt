@@ -48,7 +48,8 @@ Forced newest us T i z = (z -ℤ least newest us) ≤ℤ gap T i newest.y
 -- ts are raised from us and nowhere later than T, where each event that was raised is forced to its minute in ts
 abbrev pub Below : Limit → List ℕ → (ℕ → ℕ) → List ℕ → Type 0
 Below newest us T ts =
-    (i : ℕ) → (minute us i ≤ minute ts i) × (minute ts i ≤ T i) × (minute us i < minute ts i → Forced newest us T i (pos (minute ts i)))
+    (i : ℕ) → (minute us i ≤ minute ts i) × (minute ts i ≤ T i)
+    × (minute us i < minute ts i → Forced newest us T i (pos (minute ts i)))
 
 -- each candidate that ts are below, ts' are below too
 abbrev pub Follows : Day → Limit → List Limit → List ℕ → List ℕ → Type 0

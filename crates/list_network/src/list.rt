@@ -29,5 +29,6 @@ pub struct ListNetwork {
     ghost starts: { (k : ℕ) → k ≤ count → minute (slice_index_or times k []) 0 ≡ 0 },
     ghost within: { (k i : ℕ) → (k ≤ count) × (i < day.events) → minute (slice_index_or times k []) i ≤ day.horizon },
     ghost keeps: { (k : ℕ) → k ≤ count → Throughout (Keeps (minute (slice_index_or times k []))) limits k },
-    ghost lowest: { (k i : ℕ) (T : ℕ → ℕ) → (k ≤ count) × OfDay day T × Throughout (Keeps T) limits k → minute (slice_index_or times k []) i ≤ T i },
+    ghost lowest: { (k i : ℕ) (T : ℕ → ℕ) → (k ≤ count) × OfDay day T × Throughout (Keeps T) limits k
+        → minute (slice_index_or times k []) i ≤ T i },
 }

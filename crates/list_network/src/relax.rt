@@ -20,8 +20,8 @@ enum Outcome {
 }
 
 /// Raises the minute of the limit's `y` to the least that the limit leaves to it. Is stuck where that is after the
-/// horizon or `y` is event 0, and where `y` is the `x` of the newest limit: minutes that rested before it came rise only
-/// on its account, and a rise that comes back to where it began would go round for ever.
+/// horizon or `y` is event 0, and where `y` is the `x` of the newest limit: minutes that rested before it came rise
+/// only on its account, and a rise that comes back to where it began would go round for ever.
 fn relax(times: &mut [u16], limit: Limit, newest: Limit, day: Day) -> Outcome
     requires lawful { Lawful day limit }
     requires timetable { OfDay day (minute times.old) }

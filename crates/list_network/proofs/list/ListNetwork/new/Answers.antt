@@ -7,4 +7,5 @@ use Rattle.list_network.proofs.list.ListNetwork.new.Goals as goal
 pub invariant_of-result : goal.invariant_of-result
 invariant_of-result c =
     let day = c.single.result in
-    facts day _ (replicate 64 nowhere) (replicate 65 (replicate 32 0)) (omega arith) (refl, refl) (fresh day _ _ _ (omega arith) refl)
+    facts day _ (replicate 64 nowhere) (replicate 65 (replicate 32 0)) (omega arith) (refl, refl)
+    (fresh day _ _ _ (omega arith) refl)

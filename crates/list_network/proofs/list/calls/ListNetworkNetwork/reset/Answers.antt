@@ -9,4 +9,5 @@ invariant_of-self c =
     let s = c.args.self.now in
     let times = set s.times 0 (replicate 32 0) in
     facts _ _ s.limits times (omega arith) (s.sizes.0, simp length-set s.sizes.1)
-    (fresh c.in_ok-self.field-0 _ s.limits times (omega arith) (get_or-set_same s.times 0 (replicate 32 0) [] (omega arith)))
+    (fresh c.in_ok-self.field-0 _ s.limits times (omega arith)
+    (get_or-set_same s.times 0 (replicate 32 0) [] (omega arith)))
