@@ -37,8 +37,8 @@ zeros n i =
 
 -- no limits: all minutes are 0
 pub fresh :
-    (day : Day) (c : ℕ) (ls : List Limit) (tss : List (List ℕ)) → c ≡ 0 → slice_index_or tss 0 [] ≡ replicate max_events 0
-    → Stacked day c ls tss
+    (day : Day) (c : ℕ) (ls : List Limit) (tss : List (List ℕ)) → c ≡ 0
+    → slice_index_or tss 0 [] ≡ replicate max_events 0 → Stacked day c ls tss
 fresh day c ls tss none row = record { lawful = λ k lt. absurd (omega arith); smallest = smallest }
   where
     zero_smallest : Smallest day ls 0 (replicate max_events 0)
