@@ -43,10 +43,6 @@ module _ {X : Type 0} (f : X → List Check) where
   pub passes_adopted : (xs ys : List X) (x : X) → ys ≡ xs ++ x ∷ [] → passes (flat_map f xs) ≡ true → None ≡ first_refusal (f x) → passes (flat_map f ys) ≡ true
   passes_adopted xs ys x e h k = ap (λ zs. passes (flat_map f zs)) e ∙ passes_push xs x h (passes_all (f x) k)
 
-  -- no elements, no checks
-  pub passes_none : (xs : List X) → xs ≡ [] → passes (flat_map f xs) ≡ true
-  passes_none xs e = ap (λ ys. passes (flat_map f ys)) e
-
   -- all pass, so those of each element do
   pub passes_each : (xs : List X) → passes (flat_map f xs) ≡ true → AllByRecursion (λ x. passes (f x) ≡ true) xs
   passes_each [] h = tt

@@ -1,7 +1,5 @@
 use Rattle.std.proofs.Common.{◌≡◌, length, vec_len, arith, rules}
 use Rattle.std.proofs.lemmas.Bool.Decides.{nat_tests}
-use Rattle.problem.specs.Checks.{rule_checks}
-use Rattle.problem.proofs.Fit.{passes_none}
 use Rattle.problem.specs.Problems.{rules_of}
 use Rattle.problem.proofs.Said.{rules_count, rules_none}
 use Rattle.problem.proofs.problems.Problem.set.Goals as goal
@@ -15,7 +13,7 @@ pub invariant_of-self-clause-fit : goal.invariant_of-self-clause-fit
 invariant_of-self-clause-fit c =
     let p = c.args.self.now in
     let none : vec_len p.rules ≡ 0 = grind (arith, nat_tests) in
-    passes_none (rule_checks c.in_ok-day.day) (rules_of p) (rules_none p none)
+    rw (rules_none p none)
 
 pub returns : goal.returns
 returns c =
