@@ -33,7 +33,7 @@ fn minute_number(res: Result<u32, Refusal>) -> u32
 
 /// Makes the call, and tells its answer as a number.
 fn answer<N: Network>(network: &mut N, call: NetworkCall) -> u32
-    ensures { Acts (net network.old) call result (net network.new) }
+    ensures { Acts (N.net network.old) call result (N.net network.new) }
 {
     match call {
         NetworkCall::Reset { events, horizon } => done_number(network.reset(events, horizon)),
@@ -45,7 +45,7 @@ fn answer<N: Network>(network: &mut N, call: NetworkCall) -> u32
 
 /// Makes the calls of a script, and takes their answers into the checksum.
 fn run_once<N: Network>(network: &mut N, script: &[[u8; RECORD_SIZE]], before: u64) -> u64
-    ensures { (m : Net) (rs : List (List ℕ)) → Ran m rs before (net network.old) → Ran m (rs ++ script.now) result (net network.new) }
+    ensures { (m : Net) (rs : List (List ℕ)) → Ran m rs before (N.net network.old) → Ran m (rs ++ script.now) result (N.net network.new) }
 {
     let mut checksum = before;
     for bytes in script {
@@ -57,7 +57,7 @@ fn run_once<N: Network>(network: &mut N, script: &[[u8; RECORD_SIZE]], before: u
 
 /// Makes the calls of `setup` once and those of `script` so many times: the checksum of all answers.
 pub(crate) fn run<N: Network>(network: &mut N, setup: &[u8], script: &[u8], repeats: u32) -> u64
-    ensures { Ran (net network.old) (records setup.now ++ repeated repeats (records script.now)) result (net network.new) }
+    ensures { Ran (N.net network.old) (records setup.now ++ repeated repeats (records script.now)) result (N.net network.new) }
 {
     let (first, _) = setup.as_chunks::<RECORD_SIZE>();
     let (again, _) = script.as_chunks::<RECORD_SIZE>();

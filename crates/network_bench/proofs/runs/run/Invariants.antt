@@ -6,4 +6,4 @@ use Rattle.network_bench.proofs.runs.run.Given as goal
 abbrev pub invariant-loop-turn : goal.invariant-loop-turn
 invariant-loop-turn g l =
     (m : Net) (rs : List (List ℕ)) → Ran m rs l.initial.checksum (g.N.Network.net l.initial.network)
-    → Ran m (rs ++ repeated l.-turn l.again) l.checksum (g.N.Network.net l.network)
+    → Ran m (rs ++ repeated l._turn l.again) l.checksum (g.N.Network.net l.network)
