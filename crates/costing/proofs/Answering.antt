@@ -52,5 +52,5 @@ module _ (p : Problem) (ms : List ℕ) (t : Timetable p ms) where
         within = m.0;
         earlier = m.1;
         broken = λ r. unmet_broken (minute ms) (get_or (rules_of p) k r) (m.2 r);
-        not-allowed = unmet_not_allowed (minute ms) (rules_of p) k m.0 m.2;
+        not_allowed = unmet_not_allowed (minute ms) (rules_of p) k m.0 m.2;
       }

@@ -38,7 +38,7 @@ pub record ForbiddenBy (p : Problem) (ms : List ℕ) (k : ℕ) : Type 0 where
   pub within : k < length (rules_of p)
   pub earlier : AllByRecursion (Satisfies (minute ms)) (take k (rules_of p))
   pub broken : HoldsAt (Broken (minute ms)) (rules_of p) k
-  pub not-allowed : Allowed (minute ms) (rules_of p) → ⊥
+  pub not_allowed : Allowed (minute ms) (rules_of p) → ⊥
 
 -- what each answer says of the minutes
 abbrev pub Costed : {C : Type 0} → Way C → Problem → List ℕ → Result C Objection → Type 0
