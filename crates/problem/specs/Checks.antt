@@ -56,7 +56,7 @@ abbrev pub kind_checks : Kind → List Check
 kind_checks Firm = []
 kind_checks (Wish p) = penalty_checks p
 
--- from -max-bound to max_bound
+-- from -max_bound to max_bound
 abbrev pub in_range : ℤ → Bool
 in_range b = int_le (neg_ℤ (pos max_bound)) b && int_le b (pos max_bound)
 
