@@ -18,8 +18,8 @@ returns-then-limit-eq0 c =
     let near = small a.day a.limit ts c.requires.lawful c.requires.timetable in
     stuck a.day a.newest a.limit ts c.requires.lawful (least a.limit ts) (omega (arith, ints)) refl
     (elim c.then-limit-eq0.branch [
-      | then-limit-eq0-via-then-limit-eq0 w ↦ inl w.if-limit-eq0.true
-      | then-limit-eq0-via-else-limit-eq0+then-limit-newest w ↦ inr (inl w.if-limit-newest.true)
+      | then-limit-eq0-via-then-limit-eq0 w ↦ inl (omega arith)
+      | then-limit-eq0-via-else-limit-eq0+then-limit-newest w ↦ inr (inl (omega arith))
       | then-limit-eq0-via-else-limit-eq0+else-limit-newest+then-least-horizon w ↦
           let late : pos a.day.horizon <ℤ least a.limit ts = omega (arith, ints, a.day.week) in
           inr (inr late)

@@ -1,7 +1,8 @@
-use Rattle.std.proofs.Common.{◌+◌, sym, subst, arith}
+use Rattle.std.proofs.Common.{◌≡◌, ◌+◌, sym, subst, arith, rules}
 use Rattle.std.proofs.ByRecursion.{All-get_or}
 use Rattle.network.specs.Limits.{Lawful}
 use Rattle.list_network.specs.declared.relax.Outcome.{Outcome}
+use Rattle.list_network.specs.declared.relax.Outcome.TheVariants.{Raised}
 use Rattle.list_network.proofs.Rounds.{Going, goes_rest, goes_raised, goes_stuck, ends}
 use Rattle.list_network.proofs.relax.round.Goals as goal
 use Rattle.list_network.proofs.relax.round.Goals.{in-Rest, in-Raised}
@@ -22,7 +23,9 @@ loop-limit-preserved c =
     let F : Outcome → Type 0 = λ o. Going a.day a.newest a.limits.now (c.loop-limit.limit-index + 1) a.times.now o c.relax.new.times in
     elim c.match-relax.branch [
       | in-Rest w ↦ subst F (sym w.outcome-is) (goes_rest _ _ _ _ _ _ _ _ c.loop-limit-test.true c.loop-limit.invariant w.in-Rest.ensures)
-      | in-Raised w ↦ subst F (sym w.outcome-is) (goes_raised _ _ _ _ _ _ _ _ c.loop-limit-test.true c.loop-limit.invariant w.in-Raised.ensures)
+      | in-Raised w ↦
+          let raised : c.match-relax.outcome ≡ Raised = search rules in
+          subst F (sym raised) (goes_raised _ _ _ _ _ _ _ _ c.loop-limit-test.true c.loop-limit.invariant w.in-Raised.ensures)
     ]
 
 pub returns : goal.returns
