@@ -4,7 +4,8 @@ everything else in snake case. Imported names, names that Rattle makes, and func
 
 usage: python3 tools/respell.py          rewrites crates/ in place, and prints old and new names
        python3 tools/respell.py --list   only prints them
-Names that would fall together are printed and left as they are.
+Names that would fall together are printed and left as they are. It did its work once, in the commit that docs/PORT.md
+names; run again, it would take names of goals in answers for names of ours.
 """
 import os
 import re
