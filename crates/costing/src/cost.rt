@@ -11,7 +11,7 @@ use counting::Counting;
 use problem::{Constraint, Flaw, Problem, check_timetable};
 
 /// Why minutes have no cost.
-#[derive(Clone, Copy)]
+#[derive(Clone, Copy, PartialEq, Eq, Debug)]
 pub enum Objection {
     /// They are no timetable of the day.
     NoTimetable(Flaw),

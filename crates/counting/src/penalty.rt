@@ -7,7 +7,7 @@ pub const MAX_BREACHES: u32 = 9;
 pub const MAX_POINTS: u32 = 1_000_000;
 
 /// Breaches and points as a rule states them. A way of counting reads them as a cost.
-#[derive(Clone, Copy)]
+#[derive(Clone, Copy, PartialEq, Eq, Debug)]
 pub struct Penalty {
     pub breaches: u32,
     pub points: u32,

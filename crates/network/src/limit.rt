@@ -10,7 +10,7 @@ use problem::{Day, Refusal, is_bound};
 pub const MAX_LIMITS: usize = 64;
 
 /// Event `x` comes at most `bound` minutes after event `y`.
-#[derive(Clone, Copy)]
+#[derive(Clone, Copy, PartialEq, Eq, Debug, Default)]
 pub struct Limit {
     pub x: usize,
     pub y: usize,

@@ -2,8 +2,10 @@
 ghost use Rattle.std.specs.Prelude.{◌≡◌};
 ghost use Rattle.problem.specs.Refusals.{refusal_number};
 
+use std::fmt;
+
 /// The refusals of all calls.
-#[derive(Clone, Copy)]
+#[derive(Clone, Copy, PartialEq, Eq, Debug)]
 pub enum Refusal {
     /// The day has not 1 to 32 events.
     EventCount = 1,
@@ -59,5 +61,11 @@ impl Refusal {
         ensures { result ≡ refusal_number self }
     {
         self as u32
+    }
+}
+
+impl fmt::Display for Refusal {
+    fn fmt<W: fmt::Write>(&self, f: &mut fmt::Formatter<W>) -> fmt::Result {
+        write!(f, "{}", self.number())
     }
 }

@@ -4,7 +4,7 @@ ghost use Rattle.problem.specs.Flaws.{Judged};
 use crate::day::Day;
 
 /// Why minutes are no timetable of a day.
-#[derive(Clone, Copy)]
+#[derive(Clone, Copy, PartialEq, Eq, Debug)]
 pub enum Flaw {
     /// There is not one minute for each event of the day.
     Count,

@@ -1,7 +1,7 @@
 //! The words by which a search tells how far it is.
 
 /// How far a search is.
-#[derive(Clone, Copy, PartialEq, Eq)]
+#[derive(Clone, Copy, PartialEq, Eq, Debug)]
 pub enum Word {
     /// OPEN: it is running and keeps no plan.
     Open,
