@@ -3,3 +3,5 @@ pub mod Nets
 pub mod Calls
 pub mod Laws
 pub mod Prefixes
+pub mod Lists
+pub mod Made
