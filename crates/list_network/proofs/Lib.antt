@@ -1,3 +1,3 @@
-pub mod Relaxing
-pub mod Rounds
-pub mod Pushing
+mod Relaxing
+mod Rounds
+mod Stack

@@ -66,18 +66,10 @@ module _
 
 module _ (day : Day) (newest l : Limit) (ts : List ℕ) (lawful : Lawful day l) where
   -- the minute of y is raised to v
-  pub raised :
-      (v : ℕ) → OfDay day (minute ts) → day.events ≤ length ts → (l.y ≡ 0 → ⊥) → minute ts l.y < v → v ≤ day.horizon
-      → pos v ≡ least l ts → Rising day newest (l ∷ []) ts (set ts l.y v)
-  raised v timetable long start more high is =
-      let inside : l.y < length ts = omega (arith, lawful_y day l lawful) in
-      let apart : 0 ≡ l.y → ⊥ = λ e. start (sym e) in
+  pub raised : (v : ℕ) → l.y < length ts → minute ts l.y < v → v ≤ day.horizon → pos v ≡ least l ts → Rising day newest (l ∷ []) ts (set ts l.y v)
+  raised v inside more high is =
       let higher : pos (minute ts l.y) <ℤ pos v = omega (arith, ints) in
       record {
-        timetable = (
-          get_or-set_other ts l.y 0 v 0 apart ∙ timetable.0,
-          at_set (λ i t. i < day.events → t ≤ day.horizon) ts l.y v inside (λ _. high) timetable.1,
-        );
         nearer = slack_set day.horizon v ts l.y inside more high;
         follows = λ us T cand below.
             let to : pos v ≤ℤ pos (T l.y) = reached day newest l ts (pos v) higher is us T cand below in

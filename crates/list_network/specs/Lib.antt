@@ -1,4 +1,4 @@
 pub mod Relaxing
+pub mod Smallest
 pub mod Model
 pub mod Held
-pub mod Stack

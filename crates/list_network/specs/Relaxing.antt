@@ -9,17 +9,23 @@
 --   Lost        minutes are below no candidate
 --   Resting     minutes stay, and keep limits
 --   Rising      minutes are raised
+--   Acted       minutes stay or are raised, as the effect says
+--   SameLimits  a relaxation keeps its limits
 --   Relaxed     what relaxing limits answers, and what it leaves
 --   Settling    minutes have come to rest
 --   Settled     what settling minutes answers, and what it leaves
-use Rattle.std.specs.Prelude.{◌≡◌, ℕ, ◌+◌, ◌-◌, ◌<◌, ◌≤◌, Bool, true, false, ◌⊎◌, List, [], ◌∷◌, ℤ, pos, ◌-ℤ◌, ◌≤ℤ◌}
+use Rattle.std.specs.Prelude.{◌≡◌, ℕ, ◌+◌, ◌-◌, ◌<◌, ◌≤◌, ◌⊎◌, List, [], ◌∷◌, length, ℤ, pos, ◌-ℤ◌, ◌≤ℤ◌, Ok, Err, Result}
 use Rattle.std.specs.List.{AllByRecursion}
+use Rattle.problem.specs.Bounds.{max_events}
 use Rattle.problem.specs.Timetables.{OfDay, minute, gap}
 use Rattle.problem.specs.declared.day.Day.{Day}
 use Rattle.network.specs.Limits.{Keeps}
 use Rattle.network.specs.declared.limit.Limit.{Limit}
-use Rattle.list_network.specs.declared.relax.Outcome.{Outcome}
-use Rattle.list_network.specs.declared.relax.Outcome.TheVariants.{Rest, Raised, Stuck}
+use Rattle.network.specs.Lists.{net_of}
+use Rattle.list_network.specs.declared.relax.Clash.{Clash}
+use Rattle.list_network.specs.declared.relax.Effect.{Effect}
+use Rattle.list_network.specs.declared.relax.Effect.TheVariants.{Rest, Raised}
+use Rattle.list_network.specs.declared.relax.Relaxation.{Relaxation}
 
 -- the minutes between each of ts and h, added up
 abbrev pub slack : ℕ → List ℕ → ℕ
@@ -65,25 +71,34 @@ pub record Resting (ls : List Limit) (ts ts' : List ℕ) : Type 0 where
   pub same : ts' ≡ ts
   pub keeps : AllByRecursion (Keeps (minute ts)) ls
 
--- ts' are a timetable of the day, nearer to the horizon than ts, and below each candidate that ts were below
+-- ts' are nearer to the horizon than ts, and below each candidate that ts were below
 pub record Rising (day : Day) (newest : Limit) (ls : List Limit) (ts ts' : List ℕ) : Type 0 where
-  pub timetable : OfDay day (minute ts')
   pub nearer : slack day.horizon ts' < slack day.horizon ts
   pub follows : Follows day newest ls ts ts'
 
--- from ts, with the outcome, to ts'
-abbrev pub Relaxed : Day → Limit → List Limit → List ℕ → Outcome → List ℕ → Type 0
-Relaxed day newest ls ts Rest ts' = Resting ls ts ts'
-Relaxed day newest ls ts Raised ts' = Rising day newest ls ts ts'
-Relaxed day newest ls ts Stuck ts' = Lost day newest ls ts
+-- the limits and the newest of them stay
+pub record SameLimits (r r' : Relaxation) : Type 0 where
+  pub limits : r'.limits ≡ r.limits
+  pub newest : r'.newest ≡ r.newest
+
+-- from ts, with the effect of the limits, to ts'
+abbrev pub Acted : Day → Limit → List Limit → List ℕ → Effect → List ℕ → Type 0
+Acted day newest ls ts Rest ts' = Resting ls ts ts'
+Acted day newest ls ts Raised ts' = Rising day newest ls ts ts'
+
+-- from the minutes of r by the limits ls to ts'
+abbrev pub Relaxed : Relaxation → List Limit → Result Effect Clash → List ℕ → Type 0
+Relaxed r ls (Ok effect) ts' = Acted r.limits.now.day r.newest ls r.times effect ts'
+Relaxed r ls (Err _) ts' = Lost r.limits.now.day r.newest ls r.times
 
 -- ts' are a timetable of the day that keeps each of ls, and below each candidate that ts were below
 pub record Settling (day : Day) (newest : Limit) (ls : List Limit) (ts ts' : List ℕ) : Type 0 where
+  pub size : length ts' ≡ max_events
   pub timetable : OfDay day (minute ts')
   pub keeps : AllByRecursion (Keeps (minute ts')) ls
   pub follows : Follows day newest ls ts ts'
 
--- from ts, whether they come to rest, to ts'
-abbrev pub Settled : Day → Limit → List Limit → List ℕ → Bool → List ℕ → Type 0
-Settled day newest ls ts true ts' = Settling day newest ls ts ts'
-Settled day newest ls ts false ts' = Lost day newest ls ts
+-- from the minutes of r by all its limits to minutes at rest
+abbrev pub Settled : Relaxation → Result (List ℕ) Clash → Type 0
+Settled r (Ok ts') = Settling r.limits.now.day r.newest (net_of r.limits.now).limits r.times ts'
+Settled r (Err _) = Lost r.limits.now.day r.newest (net_of r.limits.now).limits r.times

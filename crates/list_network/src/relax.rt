@@ -1,75 +1,103 @@
 //! The smallest minutes that limits leave to events: minutes are raised, limit by limit, until they rest.
-ghost use Rattle.std.specs.Prelude.{◌≤◌, [], ◌∷◌, length};
-ghost use Rattle.std.specs.List.{AllByRecursion};
+ghost use Rattle.std.specs.Prelude.{◌≡◌, length};
+ghost use Rattle.problem.specs.Bounds.{max_events};
 ghost use Rattle.problem.specs.Timetables.{OfDay, minute};
-ghost use Rattle.network.specs.Limits.{Lawful};
-ghost use Rattle.list_network.specs.Relaxing.{Relaxed, Settled};
 
-use network::Limit;
-use problem::Day;
+use network::{Limit, LimitList};
+use problem::MAX_EVENTS;
 
 /// What limits did to the minutes.
 #[derive(Clone, Copy)]
-enum Outcome {
+enum Effect {
     /// The minutes keep the limits already.
     Rest,
     /// Some minute was raised.
     Raised,
-    /// No timetable of the day keeps all limits.
-    Stuck,
 }
 
-/// Raises the minute of the limit's `y` to the least that the limit leaves to it. Is stuck where that is after the
-/// horizon or `y` is event 0, and where `y` is the `x` of the newest limit: minutes that rested before it came rise
-/// only on its account, and a rise that comes back to where it began would go round for ever.
-fn relax(times: &mut [u16], limit: Limit, newest: Limit, day: Day) -> Outcome
-    requires lawful { Lawful day limit }
-    requires timetable { OfDay day (minute times.old) }
-    requires long { day.events ≤ length times.old }
-    ensures { Relaxed day newest (limit ∷ []) times.old result times.new }
-{
-    let least = times[limit.x] as i32 - limit.bound;
-    if least <= times[limit.y] as i32 {
-        return Outcome::Rest;
-    }
-    let horizon = day.horizon() as i32;
-    if limit.y == 0 || limit.y == newest.x || least > horizon {
-        return Outcome::Stuck;
-    }
-    times[limit.y] = least as u16;
-    Outcome::Raised
+/// No timetable of the day keeps all limits.
+#[derive(Clone, Copy)]
+pub(crate) struct Clash;
+
+/// Minutes that rested until the newest of the limits came, and are raised on its account.
+#[derive(Drop)]
+pub(crate) struct Relaxation<'a> {
+    limits: &'a LimitList,
+    newest: Limit,
+    times: [u16; MAX_EVENTS],
+    ghost size: { length times ≡ max_events },
+    ghost timetable: { OfDay limits.now.day (minute times) },
 }
 
-/// Relaxes each limit once.
-fn round(times: &mut [u16], limits: &[Limit], newest: Limit, day: Day) -> Outcome
-    requires lawful { AllByRecursion (Lawful day) limits.now }
-    requires timetable { OfDay day (minute times.old) }
-    requires long { day.events ≤ length times.old }
-    ensures { Relaxed day newest limits.now times.old result times.new }
-{
-    let mut outcome = Outcome::Rest;
-    for limit in limits {
-        match relax(times, *limit, newest, day) {
-            Outcome::Rest => {}
-            Outcome::Raised => outcome = Outcome::Raised,
-            Outcome::Stuck => return Outcome::Stuck,
+impl<'a> Relaxation<'a> {
+    ghost use Rattle.std.specs.Prelude.{[], ◌∷◌};
+    ghost use Rattle.network.specs.Limits.{Lawful};
+    ghost use Rattle.network.specs.Lists.{net_of};
+    ghost use Rattle.list_network.specs.Relaxing.{SameLimits, Relaxed, Settled};
+
+    /// The minutes, before any limit has raised them.
+    pub(crate) fn new(
+        limits: &'a LimitList,
+        newest: Limit,
+        times: [u16; MAX_EVENTS],
+    ) -> Relaxation<'a>
+        requires size { length times ≡ max_events }
+        requires timetable { OfDay limits.now.day (minute times) }
+        ensures limits { result.limits.now ≡ limits.now }
+        ensures newest { result.newest ≡ newest }
+        ensures times { result.times ≡ times }
+    {
+        Relaxation {
+            limits,
+            newest,
+            times,
         }
     }
-    outcome
-}
 
-/// Relaxes the limits, round after round, until the minutes keep them all: whether they can.
-pub(crate) fn settle(times: &mut [u16], limits: &[Limit], newest: Limit, day: Day) -> bool
-    requires lawful { AllByRecursion (Lawful day) limits.now }
-    requires timetable { OfDay day (minute times.old) }
-    requires long { day.events ≤ length times.old }
-    ensures { Settled day newest limits.now times.old result times.new }
-{
-    loop {
-        match round(times, limits, newest, day) {
-            Outcome::Rest => return true,
-            Outcome::Raised => {}
-            Outcome::Stuck => return false,
+    /// Raises the minute of the limit's `y` to the least that the limit leaves to it. Clashes where that is after the
+    /// horizon or `y` is event 0, and where `y` is the `x` of the newest limit: minutes that rested before it came
+    /// rise only on its account, and a rise that comes back to where it began would go round for ever.
+    fn relax(&mut self, limit: Limit) -> Result<Effect, Clash>
+        requires { Lawful self.old.limits.now.day limit }
+        ensures same { SameLimits self.old self.new }
+        ensures times { Relaxed self.old (limit ∷ []) result self.new.times }
+    {
+        let least = self.times[limit.x] as i32 - limit.bound;
+        if least <= self.times[limit.y] as i32 {
+            return Ok(Effect::Rest);
+        }
+        let horizon = self.limits.day().horizon() as i32;
+        if limit.y == 0 || limit.y == self.newest.x || least > horizon {
+            return Err(Clash);
+        }
+        self.times[limit.y] = least as u16;
+        Ok(Effect::Raised)
+    }
+
+    /// Relaxes each limit once.
+    fn round(&mut self) -> Result<Effect, Clash>
+        ensures same { SameLimits self.old self.new }
+        ensures times { Relaxed self.old (net_of self.old.limits.now).limits result self.new.times }
+    {
+        let mut effect = Effect::Rest;
+        for limit in self.limits.as_slice() {
+            match self.relax(*limit)? {
+                Effect::Rest => {}
+                Effect::Raised => effect = Effect::Raised,
+            }
+        }
+        Ok(effect)
+    }
+
+    /// Relaxes the limits, round after round, until the minutes keep them all: these minutes.
+    pub(crate) fn settle(mut self) -> Result<[u16; MAX_EVENTS], Clash>
+        ensures { Settled self.entry result }
+    {
+        loop {
+            match self.round()? {
+                Effect::Rest => return Ok(self.times),
+                Effect::Raised => {}
+            }
         }
     }
 }

@@ -4,16 +4,9 @@ ghost use Rattle.list_network.specs.Model.{modelled};
 ghost use Rattle.list_network.specs.Held;
 
 use crate::list::ListNetwork;
-use crate::relax::settle;
-use network::{Limit, MAX_LIMITS, Network, check_limit};
-use problem::{Day, MAX_EVENTS, Refusal};
-
-// what stands where no limit was put yet
-const NO_LIMIT: Limit = Limit {
-    x: 0,
-    y: 0,
-    bound: 0,
-};
+use crate::relax::Relaxation;
+use network::{Limit, LimitList, MAX_LIMITS, Network};
+use problem::{MAX_EVENTS, Refusal};
 
 impl ListNetwork {
     /// The network of the day with one event and horizon 0, with no limits.
@@ -21,9 +14,7 @@ impl ListNetwork {
         ensures { Emptied 1 0 (modelled result) }
     {
         ListNetwork {
-            day: Day::single(),
-            count: 0,
-            limits: [NO_LIMIT; MAX_LIMITS],
+            limits: LimitList::new(),
             times: [[0; MAX_EVENTS]; MAX_LIMITS + 1],
         }
     }
@@ -35,37 +26,30 @@ impl Network for ListNetwork {
     ghost sound = { λ network. Held.sound network };
 
     fn reset(&mut self, events: usize, horizon: u32) -> Result<(), Refusal> {
-        self.day = Day::new(events, horizon)?;
-        self.count = 0;
+        self.limits.reset(events, horizon)?;
         self.times[0] = [0; MAX_EVENTS];
         Ok(())
     }
 
     fn push(&mut self, limit: Limit) -> Result<(), Refusal> {
-        check_limit(self.day, self.count, limit)?;
-        let mut times = self.times[self.count];
-        self.limits[self.count] = limit;
-        let limits = &self.limits[..=self.count];
-        if !settle(&mut times, limits, limit, self.day) {
+        let before = self.times[self.limits.len()];
+        self.limits.push(limit)?;
+        let Ok(times) = Relaxation::new(&self.limits, limit, before).settle() else {
+            self.limits.pop()?;
             return Err(Refusal::Clash);
-        }
-        self.count += 1;
-        self.times[self.count] = times;
+        };
+        self.times[self.limits.len()] = times;
         Ok(())
     }
 
     fn pop(&mut self) -> Result<(), Refusal> {
-        if self.count == 0 {
-            return Err(Refusal::NoLimit);
-        }
-        self.count -= 1;
-        Ok(())
+        self.limits.pop()
     }
 
     fn earliest(&self, event: usize) -> Result<u32, Refusal> {
-        if event >= self.day.events() {
+        if event >= self.limits.day().events() {
             return Err(Refusal::NoSuchEvent);
         }
-        Ok(self.times[self.count][event] as u32)
+        Ok(self.times[self.limits.len()][event] as u32)
     }
 }

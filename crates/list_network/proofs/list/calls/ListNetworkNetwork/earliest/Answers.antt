@@ -1,9 +1,18 @@
-use Rattle.std.proofs.Common.{arith}
-use Rattle.list_network.specs.Held.{held}
-use Rattle.list_network.specs.Stack.{earliest}
+use Rattle.std.proofs.Common.{◌≡◌, ◌<◌, [], length, get_or, refl, arith}
+use Rattle.problem.specs.Timetables.{minute}
+use Rattle.network.specs.Nets.{Earliest}
+use Rattle.list_network.specs.Held.{newest}
+use Rattle.list_network.specs.Model.{modelled}
+use Rattle.list_network.proofs.Stack.{earliest}
 use Rattle.list_network.proofs.list.calls.ListNetworkNetwork.earliest.Goals as goal
 
 pub returns : goal.returns
 returns c =
     let s = c.args.self.now in
-    (omega arith, earliest s.day s.count s.limits s.times (held s) (omega arith) c.args.event _ (omega arith))
+    let event = c.args.event in
+    let events : c.events.result ≡ s.limits.day.events = cc in
+    let inside : event < s.limits.day.events = omega arith in
+    let row = get_or s.times (length (modelled s).limits) [] in
+    let told : Earliest (modelled s) event (minute row event) = earliest (modelled s) row (newest s) event _ refl in
+    let at : c.len.result ≡ length (modelled s).limits = c.len.ensures in
+    (inside, rw at (search told))

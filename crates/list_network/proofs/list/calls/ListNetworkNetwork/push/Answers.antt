@@ -1,39 +1,42 @@
-use Rattle.std.proofs.Common.{set, ap, inr, arith}
-use Rattle.std.proofs.lemmas.List.{length-set, take-set}
-use Rattle.list_network.specs.Held.{held, facts}
-use Rattle.list_network.proofs.Pushing.{still_few, still_stacked, longer_lawful, refused, grown, granted}
-use Rattle.list_network.specs.Stack.{net}
+use Rattle.std.proofs.Common.{◌≡◌, ◌∙◌, set, sym, ap, refl, inr}
+use Rattle.std.proofs.lemmas.List.{length-set}
+use Rattle.problem.specs.Timetables.{minute}
+use Rattle.problem.specs.declared.refusal.Refusal.TheVariants.{Clash}
+use Rattle.network.specs.Calls.{Clashing, with_limit}
+use Rattle.network.specs.Lists.{net_of}
+use Rattle.list_network.specs.Model.{modelled}
+use Rattle.list_network.specs.Smallest.{Smallest, Stacked}
+use Rattle.list_network.proofs.Stack.{put_clashes, put_smallest, put_stacked, without_newest}
 use Rattle.list_network.proofs.list.calls.ListNetworkNetwork.push.Goals as goal
 
-pub invariant_of-self : goal.invariant_of-self
-invariant_of-self c =
-    let s = c.args.self.now in
-    let stacked = still_stacked s c.args.limit c.in_ok-check_limit.ensures in
-    facts _ _ (set s.limits s.count c.args.limit) _ s.few (simp length-set s.sizes.0, s.sizes.1) stacked
-
-pub settle-requires : goal.settle-requires
-settle-requires c =
-    let s = c.args.self.now in
-    let top = (held s).smallest s.count (omega arith) in
-    record {
-      lawful = longer_lawful s c.args.limit c.in_ok-check_limit.ensures;
-      timetable = top.timetable;
-      long = omega (arith, top.size, s.day.few);
-    }
-
-pub returns-then-not-settle : goal.returns-then-not-settle
-returns-then-not-settle c =
-    let s = c.args.self.now in
-    (inr (refused s c.args.limit c.in_ok-check_limit.ensures c.if-not-settle.ensures), ap (net s.day) (take-set s.limits s.count c.args.limit))
+pub returns-in_default : goal.returns-in_default
+returns-in_default c =
+    let m = modelled c.args.self.now in
+    let l = c.args.limit in
+    let put : net_of c.push.new.self ≡ with_limit m l = c.in_ok-push.ensures.cases in
+    let clashing : Clashing m l Clash = record {
+      passes = sym c.in_ok-push.ensures.refused;
+      clash = refl;
+      unsolvable = put_clashes c.args.self.now l _ put c.new.result (ap net_of c.new.ensures.limits) c.new.ensures.newest _ c.len.ensures c.new.ensures.times c.in_default.ensures;
+    } in
+    let off = c.in_ok-pop.ensures in
+    let stays : net_of c.pop.new.self ≡ m = without_newest _ m off.0 l (sym off.1 ∙ put) in
+    (inr clashing, stays)
 
 pub invariant_of-self-2 : goal.invariant_of-self-2
 invariant_of-self-2 c =
     let s = c.args.self.now in
-    let few = still_few s c.args.limit c.in_ok-check_limit.ensures in
-    let stacked = grown s c.args.limit c.in_ok-check_limit.ensures c.settle.new.times c.settle.auto.times c.if-not-settle.ensures in
-    facts _ _ _ _ (omega arith) (simp length-set s.sizes.0, simp length-set s.sizes.1) (stacked _ (omega arith))
+    let l = c.args.limit in
+    let put : net_of c.push.new.self ≡ with_limit (modelled s) l = c.in_ok-push.ensures.cases in
+    let stacked : Stacked (net_of c.push.new.self) (set s.times c.len-2.result c.in-Ok.times) =
+    put_stacked s l _ put c.new.result (ap net_of c.new.ensures.limits) c.new.ensures.newest _ c.len.ensures c.new.ensures.times c.in-Ok.times c.in-Ok.ensures _ c.len-2.ensures c.push.new.self.few in
+    record { rows = simp length-set s.rows; stacked = search stacked }
 
 pub returns : goal.returns
 returns c =
-    let few = still_few c.args.self.now c.args.limit c.in_ok-check_limit.ensures in
-    granted c.args.self.now c.args.limit c.in_ok-check_limit.ensures c.settle.new.times c.settle.auto.times c.if-not-settle.ensures _ (omega arith)
+    let s = c.args.self.now in
+    let l = c.args.limit in
+    let put : net_of c.push.new.self ≡ with_limit (modelled s) l = c.in_ok-push.ensures.cases in
+    let smallest : Smallest (net_of c.push.new.self) c.in-Ok.times =
+    put_smallest s l _ put c.new.result (ap net_of c.new.ensures.limits) c.new.ensures.newest _ c.len.ensures c.new.ensures.times c.in-Ok.times c.in-Ok.ensures in
+    record { passes = sym c.in_ok-push.ensures.refused; becomes = put; solvable = (minute c.in-Ok.times, smallest.solves) }
