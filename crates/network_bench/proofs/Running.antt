@@ -3,15 +3,15 @@ use Rattle.std.proofs.Common.{◌≡◌, ℕ, ◌+◌, ◌<◌, ◌≤◌, List,
 use Rattle.std.proofs.lemmas.List.{append-nil, append_assoc, take_more, take_all}
 use Rattle.network.specs.Nets.{Net}
 use Rattle.network_bench.specs.Scripts.{call_of, Acts, mixed, Ran, repeated}
-use Rattle.network_bench.specs.declared.calls.NetworkCall.{NetworkCall}
+use Rattle.network.specs.declared.call.Call.{Call}
 
 module _ (m : Net) (rs script : List (List ℕ)) (i c : ℕ) (m' : Net) where
   -- one record more
-  pub ran_more : i < length script → (call : NetworkCall) → call ≡ call_of (get_or script i []) → Ran m (rs ++ take i script) c m' → (a : ℕ) (m'' : Net)
+  pub ran_more : i < length script → (call : Call) → call ≡ call_of (get_or script i []) → Ran m (rs ++ take i script) c m' → (a : ℕ) (m'' : Net)
       → Acts m' call a m'' → Ran m (rs ++ take (i + 1) script) (mixed c a) m''
   ran_more inside call is so_far a m'' acts =
       let F : List (List ℕ) → Type 0 = λ ks. Ran m ks (mixed c a) m'' in
-      let G : NetworkCall → Type 0 = λ k. Acts m' k a m'' in
+      let G : Call → Type 0 = λ k. Acts m' k a m'' in
       let one = get_or script i [] in
       subst F (append_assoc rs (take i script) (one ∷ []) ∙ ap (λ ks. rs ++ ks) (sym (take_more script i [] inside)))
       (Ran.more (rs ++ take i script) c m' one a m'' so_far (subst G is acts))

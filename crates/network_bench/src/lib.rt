@@ -1,7 +1,6 @@
 //! Scripts of calls on either network, to be run from Rust by a benchmark.
 #![tactic(auto)]
 
-mod calls;
 mod exports;
 mod records;
 mod runs;

@@ -1,45 +1,23 @@
 //! Running scripts of calls, and the checksum of their answers.
-ghost use Rattle.std.specs.Prelude.{◌≡◌, ℕ, List, ◌++◌};
+ghost use Rattle.std.specs.Prelude.{ℕ, List, ◌++◌};
 ghost use Rattle.network.specs.Nets.{Net};
-ghost use Rattle.network_bench.specs.Scripts.{outcome, told, Acts, Ran, records, repeated};
+ghost use Rattle.network_bench.specs.Scripts.{Acts, Ran, records, repeated};
 
-use crate::calls::NetworkCall;
-use crate::records::{RECORD_SIZE, decode};
-use network::Network;
-use problem::Refusal;
+use crate::records::{RECORD_SIZE, Record};
+use network::{Call, Network, Reply};
 
 // above every refusal's number, so that minutes and refusals differ
 const FIRST_MINUTE: u32 = 100;
 
-/// The answer to a call that tells nothing, as a number: 0, or that of the refusal.
-fn done_number(res: Result<(), Refusal>) -> u32
-    ensures { result ≡ outcome res }
-{
-    match res {
-        Ok(()) => 0,
-        Err(refusal) => refusal.number(),
-    }
-}
-
-/// The answer to a question, as a number: 100 and the minute, or that of the refusal.
-fn minute_number(res: Result<u32, Refusal>) -> u32
-    ensures { result ≡ told res }
-{
-    match res {
-        Ok(minute) => minute.wrapping_add(FIRST_MINUTE),
-        Err(refusal) => refusal.number(),
-    }
-}
-
-/// Makes the call, and tells its answer as a number.
-fn answer<N: Network>(network: &mut N, call: NetworkCall) -> u32
+/// Makes the call, and tells its answer as a number: 0 where there is nothing to tell, 100 and the minute, or the number
+/// of the refusal.
+fn answer<N: Network>(network: &mut N, call: Call) -> u32
     ensures { Acts (N.net network.old) call result (N.net network.new) }
 {
-    match call {
-        NetworkCall::Reset { events, horizon } => done_number(network.reset(events, horizon)),
-        NetworkCall::Push(limit) => done_number(network.push(limit)),
-        NetworkCall::Pop => done_number(network.pop()),
-        NetworkCall::Earliest { event } => minute_number(network.earliest(event)),
+    match call.make(network) {
+        Ok(Reply::Done) => 0,
+        Ok(Reply::Minute(minute)) => minute.wrapping_add(FIRST_MINUTE),
+        Err(refusal) => refusal.number(),
     }
 }
 
@@ -49,7 +27,7 @@ fn run_once<N: Network>(network: &mut N, script: &[[u8; RECORD_SIZE]], before: u
 {
     let mut checksum = before;
     for bytes in script {
-        let number = answer(network, decode(bytes));
+        let number = answer(network, Call::from(Record(*bytes)));
         checksum = checksum.wrapping_mul(31).wrapping_add(number as u64);
     }
     checksum
