@@ -1,4 +1,9 @@
-pub mod Places
+pub mod FromFn
+pub mod Opening
+pub mod Shorter
+pub mod Within
 pub mod Rows
-pub mod Ranges
+pub mod Longer
+pub mod Held
 pub mod Pushes
+pub mod Granting

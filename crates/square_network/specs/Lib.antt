@@ -1,9 +1,5 @@
 pub mod Distances
+pub mod Rows
 pub mod Shortest
 pub mod Model
-pub mod Fields
 pub mod Answered
-pub mod Tables
-pub mod Longer
-pub mod Shorter
-pub mod Opening

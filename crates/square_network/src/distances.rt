@@ -1,63 +1,27 @@
-//! Tables of distances between all pairs of a day's events, row by row: at row `i` and column `j` stands the most
-//! minutes that event `i` may come after event `j`.
-ghost use Rattle.std.specs.Prelude.{◌≡◌, ◌<◌, length};
+//! Tables of distances between all pairs of a day's events.
+ghost use Rattle.std.specs.Prelude.{◌≡◌, ◌<◌, ◌≤◌, ◌+ℤ◌, ◌≤ℤ◌, ℕ, pos, length};
+ghost use Rattle.std.specs.Int.{int_min, int_wrap, w16};
 ghost use Rattle.problem.specs.Bounds.{max_events};
 ghost use Rattle.network.specs.Limits.{Lawful};
-ghost use Rattle.square_network.specs.Distances.{table_size, at, Near, Triangle, opening, Opened, SameRow, RowShortened, Shortened};
+ghost use Rattle.square_network.specs.Distances.{at, opening, Zeros, Triangle, Starts, Ends, Near, Opened, Shortened};
+ghost use Rattle.square_network.specs.Rows.{to, NearRow, Onward, OpenedRow, ShortenedRow};
 
 use network::Limit;
 use problem::{Day, MAX_EVENTS};
 
-/// The places of a table: a row and a column for each event of the largest day.
-pub(crate) const TABLE_SIZE: usize = MAX_EVENTS * MAX_EVENTS;
+/// The distances from one event to each.
+type Row = [i16; MAX_EVENTS];
 
-/// A table of distances.
-pub(crate) type Table = [i16; TABLE_SIZE];
-
-/// The distance from event `i` to event `j`.
-pub(crate) fn distance(table: &[i16], i: usize, j: usize) -> i32
-    requires size { length table.now ≡ table_size }
-    requires row { i < max_events }
-    requires column { j < max_events }
-    ensures { result ≡ at table.now i j }
-{
-    table[i * MAX_EVENTS + j] as i32
-}
-
-/// Writes the distances from event `i` once the limit is put on.
-fn shorten_row(short: &mut [i16], table: &[i16], day: Day, limit: Limit, i: usize)
-    requires size { length table.now ≡ table_size }
-    requires room { length short.old ≡ table_size }
-    requires near { Near day table.now }
-    requires lawful { Lawful day limit }
-    requires row { i < day.events }
-    requires copied { SameRow day table.now short.old i }
-    ensures { RowShortened day table.now limit i short.old short.new }
-{
-    let to_limit = distance(table, i, limit.x) + limit.bound;
-    for j in 0..day.events() {
-        let through = to_limit + distance(table, limit.y, j);
-        if through < distance(table, i, j) {
-            short[i * MAX_EVENTS + j] = through as i16;
-        }
-    }
-}
-
-/// The distances once the limit is put on. Where the limit does not shorten the way from an event to the limit's own
-/// `y`, it shortens no way from that event, and the row stands.
-pub(crate) fn shortened(table: &Table, day: Day, limit: Limit) -> Table
-    requires near { Near day table.now }
-    requires triangle { Triangle day table.now }
-    requires lawful { Lawful day limit }
-    ensures { Shortened day table.now limit result }
-{
-    let mut short = *table;
-    for i in 0..day.events() {
-        if distance(table, i, limit.x) + limit.bound < distance(table, i, limit.y) {
-            shorten_row(&mut short, table, day, limit, i);
-        }
-    }
-    short
+/// The distances between all pairs of a day's events: at row `i` and column `j` stands the most minutes that event `i`
+/// may come after event `j`. No way by a third event is shorter. Places past the last event mean nothing.
+#[derive(Clone, Copy)]
+pub(crate) struct Distances {
+    day: Day,
+    rows: [Row; MAX_EVENTS],
+    ghost same: { Zeros day rows },
+    ghost triangle: { Triangle day rows },
+    ghost first: { Starts day rows },
+    ghost last: { Ends day rows },
 }
 
 /// The distance from event `i` to event `j` while there are no limits: no event comes before event 0, nor after the
@@ -72,13 +36,96 @@ fn unlimited(day: Day, i: usize, j: usize) -> i16
     }
 }
 
+/// The distances from event `i` while there are no limits.
+fn unlimited_row(day: Day, i: usize) -> Row
+    ensures { OpenedRow day i result }
+{
+    std::array::from_fn(|j| unlimited(day, i, j))
+}
+
+/// The shorter of a distance and the way by a limit: to its one end, and onward from there. The sum may wrap.
+fn shorter(distance: i16, to_limit: i16, onward: i16) -> i16
+    ensures { result ≡ int_min distance (int_wrap w16 (to_limit +ℤ onward)) }
+{
+    distance.min(to_limit.wrapping_add(onward))
+}
+
+/// The distances in `row`, or by way of a limit those in `beyond`, where that is shorter. Goes over all columns: those
+/// past the last event mean nothing, and may wrap.
+fn shorter_row(row: &Row, to_limit: i16, beyond: &Row) -> Row
+    ensures { (j : ℕ) → j < max_events → to result j ≡ int_min (to row.now j) (int_wrap w16 (to_limit +ℤ to beyond.now j)) }
+{
+    std::array::from_fn(|j| shorter(row[j], to_limit, beyond[j]))
+}
+
+/// Puts the limit on the distances from one event; `beyond` are those from the limit's `y`. Where the limit does not
+/// shorten the way to its `y`, it shortens no way, and the row stands.
+fn shorten_row(row: &mut Row, beyond: &Row, day: Day, limit: Limit)
+    requires near { NearRow day row.old }
+    requires beyond_near { NearRow day beyond.now }
+    requires onward { Onward day row.old limit.y beyond.now }
+    requires lawful { Lawful day limit }
+    ensures { ShortenedRow day row.old beyond.now limit row.new }
+{
+    let to_limit = row[limit.x] as i32 + limit.bound;
+    if to_limit < row[limit.y] as i32 {
+        *row = shorter_row(row, to_limit as i16, beyond);
+    }
+}
+
+/// Puts the limit on the distances of a day.
+fn shorten_rows(rows: &mut [Row], day: Day, limit: Limit)
+    requires size { length rows.old ≡ max_events }
+    requires near { Near day rows.old }
+    requires triangle { Triangle day rows.old }
+    requires lawful { Lawful day limit }
+    ensures { Shortened day rows.old limit rows.new }
+{
+    let beyond = rows[limit.y];
+    for row in &mut rows[..day.events()] {
+        shorten_row(row, &beyond, day, limit);
+    }
+}
+
 /// The distances while there are no limits.
-pub(crate) fn opened(day: Day) -> Table
+fn unlimited_rows(day: Day) -> [Row; MAX_EVENTS]
     ensures { Opened day result }
 {
-    let mut open = [0; TABLE_SIZE];
-    for place in 0..TABLE_SIZE {
-        open[place] = unlimited(day, place / MAX_EVENTS, place % MAX_EVENTS);
+    std::array::from_fn(
+        |i|
+            ensures { OpenedRow day i result }
+        { unlimited_row(day, i) },
+    )
+}
+
+impl Distances {
+    /// The distances while there are no limits.
+    pub(crate) fn opened(day: Day) -> Distances
+        ensures day { result.day ≡ day }
+        ensures rows { Opened day result.rows }
+    {
+        Distances {
+            day,
+            rows: unlimited_rows(day),
+        }
     }
-    open
+
+    /// The distance from event `i` to event `j`.
+    pub(crate) fn distance(&self, i: usize, j: usize) -> i32
+        requires row { i < self.now.day.events }
+        requires column { j < self.now.day.events }
+        ensures { result ≡ at self.now.rows i j }
+    {
+        self.rows[i][j] as i32
+    }
+
+    /// Puts on a limit that leaves the way back.
+    pub(crate) fn shorten(&mut self, limit: Limit)
+        requires lawful { Lawful self.old.day limit }
+        requires free { pos 0 ≤ℤ (at self.old.rows limit.y limit.x +ℤ limit.bound) }
+        ensures day { self.new.day ≡ self.old.day }
+        ensures rows { Shortened self.old.day self.old.rows limit self.new.rows }
+    {
+        shorten_rows(&mut self.rows, self.day, limit);
+    }
 }

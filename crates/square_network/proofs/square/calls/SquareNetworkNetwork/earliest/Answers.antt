@@ -1,27 +1,39 @@
-use Rattle.std.proofs.Common.{ℕ, subst, arith}
+use Rattle.std.proofs.Common.{◌≡◌, ℕ, ◌<◌, ◌≤◌, pos, ◌≤ℤ◌, ap, subst, arith}
 use Rattle.std.proofs.lemmas.Int.{ints}
+use Rattle.problem.specs.declared.day.Day.{Day}
 use Rattle.network.specs.Nets.{Earliest}
+use Rattle.square_network.specs.Distances.{at}
 use Rattle.square_network.specs.Model.{modelled}
-use Rattle.square_network.specs.Fields.{near_last, start_range, earliest_is}
+use Rattle.square_network.specs.Answered.{soonest, of_day, starts, earliest}
 use Rattle.square_network.proofs.square.calls.SquareNetworkNetwork.earliest.Goals as goal
 
 pub overflow_sub-result : goal.overflow_sub-result
 overflow_sub-result c =
-    let s = c.args.self.now in
-    let some = s.day.some in
-    let near = near_last s c.shortest.result.now c.shortest.ensures in
-    let to_start = near 0 c.args.event (omega arith) (omega arith) in
-    let from_start = near c.args.event 0 (omega arith) (omega arith) in
-    omega (arith, ints)
+    let m = modelled c.args.self.now in
+    let d = c.shortest.result.now in
+    let same : c.day.result.events ≡ m.day.events = ap (λ (day : Day). day.events) c.day.ensures in
+    let row : c.args.event < m.day.events = omega arith in
+    let late : soonest d.rows c.args.event ≤ m.day.horizon = (of_day m.day m.limits c.args.self.now.limits.lawful d c.shortest.ensures).1 c.args.event row in
+    let early : at d.rows 0 c.args.event ≤ℤ pos 0 = starts m.day m.limits c.args.self.now.limits.lawful d c.shortest.ensures c.args.event row in
+    omega (arith, ints, m.day.week)
 
 pub overflow_cast-result : goal.overflow_cast-result
 overflow_cast-result c =
-    let range = start_range c.args.self.now c.shortest.result.now c.shortest.ensures c.args.event (omega arith) in
-    (omega (arith, ints), omega (arith, ints))
+    let m = modelled c.args.self.now in
+    let d = c.shortest.result.now in
+    let same : c.day.result.events ≡ m.day.events = ap (λ (day : Day). day.events) c.day.ensures in
+    let row : c.args.event < m.day.events = omega arith in
+    let late : soonest d.rows c.args.event ≤ m.day.horizon = (of_day m.day m.limits c.args.self.now.limits.lawful d c.shortest.ensures).1 c.args.event row in
+    let early : at d.rows 0 c.args.event ≤ℤ pos 0 = starts m.day m.limits c.args.self.now.limits.lawful d c.shortest.ensures c.args.event row in
+    (omega (arith, ints, m.day.week), omega (arith, ints, m.day.week))
 
 pub returns : goal.returns
 returns c =
-    let s = c.args.self.now in
-    let range = start_range s c.shortest.result.now c.shortest.ensures c.args.event (omega arith) in
-    let F : ℕ → Type 0 = Earliest (modelled s) c.args.event in
-    (omega arith, subst F (omega (arith, ints)) (earliest_is s c.shortest.result.now c.shortest.ensures c.args.event (omega arith)))
+    let m = modelled c.args.self.now in
+    let d = c.shortest.result.now in
+    let same : c.day.result.events ≡ m.day.events = ap (λ (day : Day). day.events) c.day.ensures in
+    let row : c.args.event < m.day.events = omega arith in
+    let late : soonest d.rows c.args.event ≤ m.day.horizon = (of_day m.day m.limits c.args.self.now.limits.lawful d c.shortest.ensures).1 c.args.event row in
+    let early : at d.rows 0 c.args.event ≤ℤ pos 0 = starts m.day m.limits c.args.self.now.limits.lawful d c.shortest.ensures c.args.event row in
+    let F : ℕ → Type 0 = Earliest m c.args.event in
+    (row, subst F (omega (arith, ints, m.day.week)) (earliest m.day m.limits c.args.self.now.limits.lawful d c.shortest.ensures c.args.event row))

@@ -1,0 +1,40 @@
+use Rattle.std.proofs.Common.{◌≡◌, List, [], length, get_or, take, ℤ, sym, subst, arith}
+use Rattle.std.proofs.lemmas.List.{length-take-le}
+use Rattle.network.proofs.Taken.{lawful_y}
+use Rattle.square_network.specs.Rows.{NearRow, Onward, ShortenedRow}
+use Rattle.square_network.proofs.Rows.{rows_none, row_more, rows_all}
+use Rattle.square_network.proofs.distances.shorten_rows.Goals as goal
+
+pub loop-row-init : goal.loop-row-init
+loop-row-init c = rows_none c.args.day c.args.rows.now c.args.limit c.events.result c.events.ensures
+
+pub shorten_row-requires : goal.shorten_row-requires
+shorten_row-requires c =
+    let day = c.args.day in
+    let D = c.args.rows.now in
+    let l = c.args.limit in
+    let i = c.loop-row.row-index in
+    let y-within = lawful_y day l c.requires.lawful in
+    let long : length (take c.events.result D) ≡ c.events.result = length-take-le c.events.result D (omega arith) in
+    let same = c.loop-row.invariant.left i (omega arith) (omega arith) in
+    record {
+      near = subst (NearRow day) (sym same) (λ j column. c.requires.near i j (omega arith) column);
+      beyond_near = λ j column. c.requires.near l.y j y-within column;
+      onward = (let F : List ℤ → Type 0 = λ R. Onward day R l.y (get_or D l.y []) in subst F (sym same) (λ j column. c.requires.triangle i l.y j (omega arith) y-within column));
+      lawful = c.requires.lawful;
+    }
+
+pub loop-row-preserved : goal.loop-row-preserved
+loop-row-preserved c =
+    let D = c.args.rows.now in
+    let i = c.loop-row.row-index in
+    let long : length (take c.events.result D) ≡ c.events.result = length-take-le c.events.result D (omega arith) in
+    let same = c.loop-row.invariant.left i (omega arith) (omega arith) in
+    let F : List ℤ → Type 0 = λ R. ShortenedRow c.args.day R (get_or D c.args.limit.y []) c.args.limit c.shorten_row.new.row in
+    row_more c.args.day D c.args.limit i c.loop-row.row-items c.shorten_row.new.row c.loop-row.invariant (omega arith) (subst F same c.shorten_row.ensures)
+
+pub returns : goal.returns
+returns c =
+    let D = c.args.rows.now in
+    let long : length (take c.events.result D) ≡ c.events.result = length-take-le c.events.result D (omega arith) in
+    rows_all c.args.day D c.args.limit c.loop-row.row-index c.loop-row.row-items _ c.loop-row.invariant (omega arith) (omega arith)
