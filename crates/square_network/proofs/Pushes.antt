@@ -1,7 +1,7 @@
 -- What a limit does to the shortest distances over a list of limits.
 use Rattle.std.proofs.Common.{◌≡◌, ℕ, ◌<◌, List, [], ◌∷◌, ◌++◌, get_or, pos, ◌+ℤ◌, ◌≤ℤ◌, ◌<ℤ◌, neg_ℤ, Some, None, length, refl, ap, sym, subst, ◌∙◌, arith}
 use Rattle.std.proofs.lemmas.Int.{ints, clamps}
-use Rattle.std.proofs.lemmas.List.Elements.{All-from_recursion, All-push, All-pop, All-nil}
+use Rattle.std.proofs.lemmas.List.Elements.{All-from_recursion, All-push, All-pop}
 use Rattle.std.specs.List.{All, AllByRecursion}
 use Rattle.problem.specs.Checks.{first_refusal}
 use Rattle.problem.specs.Timetables.{OfDay, gap}
@@ -11,11 +11,10 @@ use Rattle.network.specs.Limits.{Lawful, Keeps, limit_checks}
 use Rattle.network.specs.Nets.{Net, Unsolvable}
 use Rattle.network.specs.declared.limit.Limit.{Limit}
 use Rattle.network.proofs.Taken.{taken_lawful, lawful_x, lawful_y, lawful_low, lawful_high}
-use Rattle.square_network.specs.Distances.{at, through, Opened, Shortened}
+use Rattle.square_network.specs.Distances.{at, through, Shortened}
 use Rattle.square_network.specs.Shortest.{Bounds, Shortest}
 use Rattle.square_network.specs.declared.distances.Distances.{Distances}
 use Rattle.square_network.proofs.Longer.{near, old_way, new_way}
-use Rattle.square_network.proofs.Opening.{opened_sound}
 
 -- a limit that passed the checks of the network's day and count of limits
 module _ (m : Net) (l : Limit) (day : Day) (count : ℕ) (of_day : day ≡ m.day) (counted : count ≡ length m.limits)
@@ -26,14 +25,6 @@ module _ (m : Net) (l : Limit) (day : Day) (count : ℕ) (of_day : day ≡ m.day
 
   pub taken : Lawful m.day l
   taken = taken_lawful m.day (length m.limits) l (sym passes)
-
--- no limits
-pub opened_shortest : (day : Day) (d : Distances) → d.day ≡ day → Opened day d.rows → Shortest day [] d
-opened_shortest day d same opened = record {
-  of_day = same;
-  tight = All-nil (Bounds d.rows);
-  sound = λ T of _. opened_sound day d.rows opened T of;
-}
 
 module _ (day : Day) (ls : List Limit) (d : Distances) (s : Shortest day ls d) (l : Limit) (lawful : Lawful day l) where
   lawful_there : Lawful d.day l

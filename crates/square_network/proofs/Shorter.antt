@@ -1,11 +1,8 @@
 -- The shorter of two ways, and what stays true of distances when a limit shortens them.
-use Rattle.std.specs.Prelude.{◌≡◌, ℤ, pos, ◌+ℤ◌, ◌≤ℤ◌, ◌<ℤ◌}
+use Rattle.std.specs.Prelude.{◌≡◌, ℤ, pos, ◌+ℤ◌, ◌≤ℤ◌}
 use Rattle.std.proofs.Common.{sym, arith}
 use Rattle.std.specs.Int.{int_min}
 use Rattle.std.proofs.lemmas.Int.{ints, clamps}
-
-pub is_new : (a b r : ℤ) → b <ℤ a → r ≡ b → r ≡ int_min a b
-is_new a b r lt e = grind (arith, ints)
 
 pub is_old : (a b r : ℤ) → a ≤ℤ b → r ≡ a → r ≡ int_min a b
 is_old a b r le e = grind (arith, ints)

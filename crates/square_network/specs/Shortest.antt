@@ -2,13 +2,14 @@
 --   Bounds     a distance is as short as a limit asks
 --   Shortest   a table has the shortest distances over a list of limits
 --   Held       table k has them over the first k limits, for each k up to the count of limits
-use Rattle.std.specs.Prelude.{◌≡◌, ℕ, ◌<◌, ◌≤◌, List, length, take, ◌≤ℤ◌}
+--   Lengthened   a list of tables has one more, with a limit put on
+use Rattle.std.specs.Prelude.{◌≡◌, ℕ, ◌-◌, ◌<◌, ◌≤◌, List, [], ◌∷◌, ◌++◌, length, take, ◌≤ℤ◌}
 use Rattle.std.specs.List.{All, HoldsAt}
 use Rattle.problem.specs.Timetables.{OfDay, gap}
 use Rattle.problem.specs.declared.day.Day.{Day}
 use Rattle.network.specs.Limits.{Keeps}
 use Rattle.network.specs.declared.limit.Limit.{Limit}
-use Rattle.square_network.specs.Distances.{Square, at}
+use Rattle.square_network.specs.Distances.{Square, at, Shortened}
 use Rattle.square_network.specs.declared.distances.Distances.{Distances}
 
 -- from x to y it is at most the bound
@@ -24,3 +25,10 @@ pub record Shortest (day : Day) (ls : List Limit) (d : Distances) : Type 0 where
 -- for each k up to the count of limits table k has the shortest distances over the first k
 abbrev pub Held : Day → List Limit → List Distances → Type 0
 Held day ls ds = (k : ℕ) → k ≤ length ls → HoldsAt (Shortest day (take k ls)) ds k
+
+-- ds' has behind ds one table more: the distances once the limit is put on the last of ds
+pub record Lengthened (l : Limit) (ds ds' : List Distances) : Type 0 where
+  pub next : Distances
+  pub behind : ds' ≡ ds ++ next ∷ []
+  pub of_day : HoldsAt (λ d. next.day ≡ d.day) ds (length ds - 1)
+  pub shortened : HoldsAt (λ d. Shortened d.day d.rows l next.rows) ds (length ds - 1)

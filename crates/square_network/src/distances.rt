@@ -3,8 +3,8 @@ ghost use Rattle.std.specs.Prelude.{◌≡◌, ◌<◌, ◌≤◌, ◌+ℤ◌, �
 ghost use Rattle.std.specs.Int.{int_min, int_wrap, w16};
 ghost use Rattle.problem.specs.Bounds.{max_events};
 ghost use Rattle.network.specs.Limits.{Lawful};
-ghost use Rattle.square_network.specs.Distances.{at, opening, Zeros, Triangle, Starts, Ends, Near, Opened, Shortened};
-ghost use Rattle.square_network.specs.Rows.{to, NearRow, Onward, OpenedRow, ShortenedRow};
+ghost use Rattle.square_network.specs.Distances.{at, Zeros, Triangle, Starts, Ends, Near, Opened, Shortened};
+ghost use Rattle.square_network.specs.Rows.{to, NearRow, Onward, ShortenedRow};
 
 use network::Limit;
 use problem::{Day, MAX_EVENTS};
@@ -24,23 +24,16 @@ pub(crate) struct Distances {
     ghost last: { Ends day rows },
 }
 
-/// The distance from event `i` to event `j` while there are no limits: no event comes before event 0, nor after the
-/// horizon.
-fn unlimited(day: Day, i: usize, j: usize) -> i16
-    ensures { result ≡ opening day i j }
+/// The distances while there are no limits: no event comes before event 0, nor after the horizon.
+fn opened_rows(day: Day) -> [Row; MAX_EVENTS]
+    ensures { Opened day result }
 {
-    if i == 0 || i == j {
-        0
-    } else {
-        day.horizon() as i16
+    let mut rows = [[day.horizon() as i16; MAX_EVENTS]; MAX_EVENTS];
+    rows[0] = [0; MAX_EVENTS];
+    for (i, row) in rows.iter_mut().enumerate() {
+        row[i] = 0;
     }
-}
-
-/// The distances from event `i` while there are no limits.
-fn unlimited_row(day: Day, i: usize) -> Row
-    ensures { OpenedRow day i result }
-{
-    std::array::from_fn(|j| unlimited(day, i, j))
+    rows
 }
 
 /// The shorter of a distance and the way by a limit: to its one end, and onward from there. The sum may wrap.
@@ -87,17 +80,6 @@ fn shorten_rows(rows: &mut [Row], day: Day, limit: Limit)
     }
 }
 
-/// The distances while there are no limits.
-fn unlimited_rows(day: Day) -> [Row; MAX_EVENTS]
-    ensures { Opened day result }
-{
-    std::array::from_fn(
-        |i|
-            ensures { OpenedRow day i result }
-        { unlimited_row(day, i) },
-    )
-}
-
 impl Distances {
     /// The distances while there are no limits.
     pub(crate) fn opened(day: Day) -> Distances
@@ -106,7 +88,7 @@ impl Distances {
     {
         Distances {
             day,
-            rows: unlimited_rows(day),
+            rows: opened_rows(day),
         }
     }
 

@@ -1,9 +1,12 @@
 //! The calls on a network of shortest distances.
-ghost use Rattle.std.specs.Prelude.{◌≡◌, ◌∷◌, ◌++◌, ◌+◌, ◌<◌, ◌≤◌, ◌-◌, IfOk, vec_len, vec_capacity};
+ghost use Rattle.std.specs.List.{HoldsAt};
+ghost use Rattle.network.specs.Limits.{Lawful};
+ghost use Rattle.square_network.specs.Distances.{at};
+ghost use Rattle.std.specs.Prelude.{pos, ◌+ℤ◌, ◌≤ℤ◌, ◌≡◌, ◌∷◌, ◌++◌, ◌+◌, ◌<◌, ◌≤◌, ◌-◌, IfOk, vec_len, vec_capacity};
 ghost use Rattle.network.specs.Calls.{Emptied};
 ghost use Rattle.network.specs.Lists.{net_of};
 ghost use Rattle.square_network.specs.Model.{modelled};
-ghost use Rattle.square_network.specs.Shortest.{Shortest};
+ghost use Rattle.square_network.specs.Shortest.{Shortest, Lengthened};
 ghost use Rattle.square_network.specs.Answered;
 
 use crate::distances::Distances;
@@ -11,6 +14,22 @@ use crate::square::SquareNetwork;
 use network::{Limit, LimitList, MAX_LIMITS, Network, check_limit};
 use problem::Refusal;
 use std::alloc::{AllocError, Global};
+
+/// Puts behind the newest table a copy of it with the limit put on, which leaves the way back.
+fn lengthen(tables: &mut Vec<Distances>, limit: Limit)
+    requires some { 0 < vec_len tables.old }
+    requires room { vec_len tables.old < vec_capacity tables.old }
+    requires lawful { HoldsAt (λ d. Lawful d.day limit) tables.old.items (vec_len tables.old - 1) }
+    requires free { HoldsAt (λ d. pos 0 ≤ℤ (at d.rows limit.y limit.x +ℤ limit.bound)) tables.old.items (vec_len tables.old - 1) }
+    ensures items { Lengthened limit tables.old.items tables.new.items }
+    ensures len { vec_len tables.new ≡ vec_len tables.old + 1 }
+    ensures capacity { vec_capacity tables.new ≡ vec_capacity tables.old }
+{
+    let newest = tables.len() - 1;
+    let copy = tables[newest];
+    tables.push_reserved(copy);
+    tables[newest + 1].shorten(limit);
+}
 
 impl SquareNetwork {
     /// The network of one event at minute 0, with no limits. Fails only for want of memory; no other call does.
@@ -25,7 +44,8 @@ impl SquareNetwork {
 
     /// The shortest distances over all limits.
     fn shortest(&self) -> &Distances
-        ensures { Shortest (modelled self.now).day (modelled self.now).limits result.now }
+        ensures newest { HoldsAt (λ d. result.now ≡ d) self.now.tables.items (vec_len self.now.tables - 1) }
+        ensures shortest { Shortest (modelled self.now).day (modelled self.now).limits result.now }
     {
         &self.tables[self.limits.len()]
     }
@@ -46,15 +66,12 @@ impl Network for SquareNetwork {
 
     fn push(&mut self, limit: Limit) -> Result<(), Refusal> {
         check_limit(self.limits.day(), self.limits.len(), limit)?;
-        let shortest = self.shortest();
         // no timetable goes round the limit and the way back in less than no time
-        if shortest.distance(limit.y, limit.x) + limit.bound < 0 {
+        if self.shortest().distance(limit.y, limit.x) + limit.bound < 0 {
             return Err(Refusal::Clash);
         }
-        let longer = *shortest;
         self.limits.push(limit)?;
-        self.tables.push_reserved(longer);
-        self.tables[self.limits.len()].shorten(limit);
+        lengthen(&mut self.tables, limit);
         Ok(())
     }
 

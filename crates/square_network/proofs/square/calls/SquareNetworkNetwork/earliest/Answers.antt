@@ -13,8 +13,8 @@ overflow_sub-result c =
     let d = c.shortest.result.now in
     let same : c.day.result.events ≡ m.day.events = ap (λ (day : Day). day.events) c.day.ensures in
     let row : c.args.event < m.day.events = omega arith in
-    let late : soonest d.rows c.args.event ≤ m.day.horizon = (of_day m.day m.limits c.args.self.now.limits.lawful d c.shortest.ensures).1 c.args.event row in
-    let early : at d.rows 0 c.args.event ≤ℤ pos 0 = starts m.day m.limits c.args.self.now.limits.lawful d c.shortest.ensures c.args.event row in
+    let late : soonest d.rows c.args.event ≤ m.day.horizon = (of_day m.day m.limits c.args.self.now.limits.lawful d c.shortest.ensures.shortest).1 c.args.event row in
+    let early : at d.rows 0 c.args.event ≤ℤ pos 0 = starts m.day m.limits c.args.self.now.limits.lawful d c.shortest.ensures.shortest c.args.event row in
     omega (arith, ints, m.day.week)
 
 pub overflow_cast-result : goal.overflow_cast-result
@@ -23,8 +23,8 @@ overflow_cast-result c =
     let d = c.shortest.result.now in
     let same : c.day.result.events ≡ m.day.events = ap (λ (day : Day). day.events) c.day.ensures in
     let row : c.args.event < m.day.events = omega arith in
-    let late : soonest d.rows c.args.event ≤ m.day.horizon = (of_day m.day m.limits c.args.self.now.limits.lawful d c.shortest.ensures).1 c.args.event row in
-    let early : at d.rows 0 c.args.event ≤ℤ pos 0 = starts m.day m.limits c.args.self.now.limits.lawful d c.shortest.ensures c.args.event row in
+    let late : soonest d.rows c.args.event ≤ m.day.horizon = (of_day m.day m.limits c.args.self.now.limits.lawful d c.shortest.ensures.shortest).1 c.args.event row in
+    let early : at d.rows 0 c.args.event ≤ℤ pos 0 = starts m.day m.limits c.args.self.now.limits.lawful d c.shortest.ensures.shortest c.args.event row in
     (omega (arith, ints, m.day.week), omega (arith, ints, m.day.week))
 
 pub returns : goal.returns
@@ -33,7 +33,7 @@ returns c =
     let d = c.shortest.result.now in
     let same : c.day.result.events ≡ m.day.events = ap (λ (day : Day). day.events) c.day.ensures in
     let row : c.args.event < m.day.events = omega arith in
-    let late : soonest d.rows c.args.event ≤ m.day.horizon = (of_day m.day m.limits c.args.self.now.limits.lawful d c.shortest.ensures).1 c.args.event row in
-    let early : at d.rows 0 c.args.event ≤ℤ pos 0 = starts m.day m.limits c.args.self.now.limits.lawful d c.shortest.ensures c.args.event row in
+    let late : soonest d.rows c.args.event ≤ m.day.horizon = (of_day m.day m.limits c.args.self.now.limits.lawful d c.shortest.ensures.shortest).1 c.args.event row in
+    let early : at d.rows 0 c.args.event ≤ℤ pos 0 = starts m.day m.limits c.args.self.now.limits.lawful d c.shortest.ensures.shortest c.args.event row in
     let F : ℕ → Type 0 = Earliest m c.args.event in
-    (row, subst F (omega (arith, ints, m.day.week)) (earliest m.day m.limits c.args.self.now.limits.lawful d c.shortest.ensures c.args.event row))
+    (row, subst F (omega (arith, ints, m.day.week)) (earliest m.day m.limits c.args.self.now.limits.lawful d c.shortest.ensures.shortest c.args.event row))
