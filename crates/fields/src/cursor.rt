@@ -1,52 +1,54 @@
 //! A cursor over the fields of a text.
-ghost use Rattle.std.specs.Prelude.{◌≡◌, ℕ, ◌<◌, ◌≤◌, [], ◌∷◌, length, IfNone, MatchOption, ◌≢◌, slice_index};
-ghost use Rattle.fields.specs.Fields.{parts, left};
+ghost use Rattle.std.specs.Prelude.{◌≡◌, ◌==◌, [], ◌∷◌, position};
+ghost use Rattle.std.specs.Option.{option_map_or};
+ghost use Rattle.std.specs.Iterator.{YieldsFirstRef, item_count};
+ghost use Rattle.fields.specs.Fields.{comma, parts, joined, left};
 
 /// The fields of a text that are still to come: the parts between its commas, in order.
 #[derive(Drop)]
 pub struct Fields<'a> {
-    text: &'a [u8],
-    at: usize,
+    /// What is left of the text, or `None` once its last field was taken.
+    rest: Option<&'a [u8]>,
 }
 
 impl<'a> Fields<'a> {
     /// All fields of a text. A text with no comma is one field, and so is the empty text.
     pub fn of(text: &'a [u8]) -> Fields<'a>
         ensures all { left result ≡ parts text.now }
-        ensures same { result.text.now ≡ text.now }
+        ensures same { joined (left result) ≡ text.now }
     {
-        Fields { text, at: 0 }
-    }
-
-    /// Takes the next field, or answers `None` when none is left.
-    pub fn next(&mut self) -> Option<&'a [u8]>
-        ensures takes { MatchOption result
-            (left self.old ≡ [])
-            (λ field. left self.old ≡ field.now ∷ left self.new) }
-        ensures ends { IfNone result (left self.new ≡ []) }
-        ensures same { self.new.text.now ≡ self.old.text.now }
-    {
-        if self.at > self.text.len() {
-            return None;
-        }
-        let start = self.at;
-        let end = find(self.text, start, b',');
-        self.at = end + 1;
-        Some(&self.text[start..end])
+        Fields { rest: Some(text) }
     }
 }
 
-/// The place of the first such byte at `from` or after it, or the text's length where there is none.
-fn find(text: &[u8], from: usize, byte: u8) -> usize
-    requires { from ≤ length text.now }
-    ensures onward { from ≤ result }
-    ensures within { result ≤ length text.now }
-    ensures before { (k : ℕ) → from ≤ k → k < result → slice_index text.now k ≢ byte }
-    ensures found { result < length text.now → slice_index text.now result ≡ byte }
-{
-    let mut place = from;
-    while place < text.len() && text[place] != byte {
-        place += 1;
+impl<'a> Iterator for Fields<'a> {
+    type Item = &'a [u8];
+
+    ghost next_gives = { YieldsFirstRef left };
+
+    ghost remaining = { item_count left };
+
+    /// Takes the next field, or answers `None` when none is left.
+    fn next(&mut self) -> Option<&'a [u8]> {
+        let (field, rest) = split_first_field(self.rest?);
+        self.rest = rest;
+        Some(field)
     }
-    place
+}
+
+/// The first field of a text, and what follows the comma behind it, or `None` where no comma stands behind it.
+fn split_first_field(text: &[u8]) -> (&[u8], Option<&[u8]>)
+    ensures { parts text.now ≡ result.0.now ∷ option_map_or (λ rest. parts rest.now) result.1 [] }
+{
+    match first_comma(text) {
+        Some(end) => (&text[..end], Some(&text[end + 1..])),
+        None => (text, None),
+    }
+}
+
+/// The place of the first comma.
+fn first_comma(text: &[u8]) -> Option<usize>
+    ensures { result ≡ position (λ byte. byte == comma) text.now }
+{
+    text.iter().position(|byte| *byte == b',')
 }

@@ -1,0 +1,6 @@
+use Rattle.std.proofs.lemmas.List.Splits.{join_with_byte-slice_split}
+use Rattle.fields.specs.Fields.{comma}
+use Rattle.fields.proofs.cursor.Fields.of.Goals as goal
+
+pub returns-clause-same : goal.returns-clause-same
+returns-clause-same c = join_with_byte-slice_split comma c.args.text.now
