@@ -1,49 +1,55 @@
 //! Standard input, cut into lines.
-use crate::buffer::LineBuffer;
-use std::io::Read;
+ghost use Rattle.std.specs.Prelude.{IfOk};
+ghost use Rattle.lines.specs.Lines.{lines_left, AtStart, TellsInTurn};
 
-/// How many bytes are read at a time.
-const CHUNK: usize = 4096;
+use crate::line::Line;
+use std::io;
+use std::io::{BufReader, Bytes, Read, Stdin};
 
-/// What is done with each line.
-pub trait LineSink {
-    /// Takes the line of this number, counted from 1, without its line feed; `None` where the line is overlong.
-    fn take(&mut self, rt: &HostRuntime, number: u64, text: Option<&[u8]>) -> anyhow::Result<()>;
+/// The lines of a reader, one after the other; the last one may lack its line feed.
+#[derive(Drop)]
+pub struct Lines<R> {
+    /// What is still to be read, or `None` once the reader has ended.
+    bytes: Option<Bytes<BufReader<R>>>,
+    /// The line that is being read.
+    line: Line,
 }
 
-/// Reads standard input to its end and hands on each line; the last one may lack its line feed. No contract can say
-/// what is read.
-pub fn read_lines<S: LineSink>(rt: &HostRuntime, sink: &mut S) -> anyhow::Result<()> {
-    let mut line = LineBuffer::new(rt.alloc());
-    let mut input = rt.stdin();
-    let mut chunk = [0; CHUNK];
-    for _ in 0..u64::MAX {
-        let count = input.read(&mut chunk)?;
-        if count == 0 {
-            break;
+impl<R: Read + Drop> Iterator for Lines<R> {
+    type Item = io::Result<Line>;
+
+    ghost next_gives = { TellsInTurn };
+
+    ghost remaining = { lines_left };
+
+    /// Takes the next line, or answers `None` when none is left.
+    fn next(&mut self) -> Option<io::Result<Line>> {
+        let Some(bytes) = &mut self.bytes else {
+            return None;
+        };
+        while let Some(byte) = bytes.next() {
+            match byte {
+                Ok(b'\n') => return Some(Ok(self.line.advance())),
+                Ok(byte) => self.line.add(byte),
+                Err(error) => return Some(Err(error)),
+            }
         }
-        take_chunk(rt, &mut line, &chunk[0..count], sink)?;
-    }
-    if line.is_begun() {
-        sink.take(rt, line.number(), line.text())?;
-    }
-    Ok(())
-}
-
-/// Hands on each line that the bytes complete, and keeps the rest of them for the next line.
-fn take_chunk<S: LineSink>(
-    rt: &HostRuntime,
-    line: &mut LineBuffer,
-    bytes: &[u8],
-    sink: &mut S,
-) -> anyhow::Result<()> {
-    for byte in bytes {
-        if *byte == b'\n' {
-            sink.take(rt, line.number(), line.text())?;
-            line.advance();
+        self.bytes = None;
+        if self.line.is_begun() {
+            Some(Ok(self.line.advance()))
         } else {
-            line.add(*byte)?;
+            None
         }
     }
-    Ok(())
+}
+
+/// The lines of standard input. No contract can say what is read.
+pub fn read_lines(rt: &HostRuntime) -> io::Result<Lines<Stdin>>
+    ensures { IfOk result AtStart }
+{
+    let input = BufReader::new(rt.alloc(), rt.stdin())?;
+    Ok(Lines {
+        bytes: Some(input.bytes()),
+        line: Line::new(),
+    })
 }

@@ -1,8 +1,8 @@
 //! Lines of standard input, one after the other, in bounded memory.
 #![tactic(auto)]
 
-mod buffer;
 mod input;
+mod line;
 
-pub use buffer::{LineBuffer, MAX_LINE};
-pub use input::{LineSink, read_lines};
+pub use input::{Lines, read_lines};
+pub use line::{Line, MAX_LINE};
