@@ -1,42 +1,19 @@
 -- A line read field by field.
-use Rattle.std.proofs.Common.{◌≡◌, ℕ, List, [], ◌∷◌, ◌++◌, map, length, get_or, decimal, sym, ap, ◌∙◌, subst, append_assoc, append-nil, arith, length-append}
+use Rattle.std.proofs.Common.{◌≡◌, ℕ, ◌<◌, ◌^◌, List, [], ◌∷◌, ◌++◌, map, length, get_or, eqb, decimal, sym, ap, ◌∙◌, subst, arith, length-append}
 use lib.ListN.{length-map}
 use Rattle.std.specs.List.{AllByRecursion}
-use Rattle.std.proofs.ByRecursion.{All-push, All-get_or}
-use Rattle.std.proofs.lemmas.List.{map_push, get_or-map, get_or_at, get_or_append_left}
-use Rattle.fields.specs.Fields.{parts, joined}
+use Rattle.std.proofs.ByRecursion.{All-get_or}
+use Rattle.std.proofs.lemmas.List.{get_or-map, get_or_at, get_or_append_left}
+use Rattle.fields.specs.Fields.{comma, parts}
 use Rattle.fields.specs.Numbers.{Short, Writes}
-use Rattle.fields.proofs.Joins.{joined_parts, parts_some}
-use Rattle.rounds.specs.Round.{States, FirstFault}
+use Rattle.std.proofs.lemmas.List.Sums.{count_by-le-length}
+use Rattle.std.proofs.lemmas.List.Splits.{length-slice_split}
+use Rattle.rounds.specs.Round.{FirstFault}
 
 -- the minutes were read from the first fields of the line, and the others are left
 pub record Sofar (line minutes : List ℕ) (left : List (List ℕ)) : Type 0 where
   pub fields : parts line ≡ map decimal minutes ++ left
   pub short : AllByRecursion Short minutes
-
--- one field more was read
-pub one_read : {line minutes field more : List ℕ} {before after : List (List ℕ)} {minute kept : ℕ} → Sofar line minutes before → before ≡ field ∷ after → Writes field minute → more ≡ minutes ++ kept ∷ [] → kept ≡ minute → Sofar line more after
-one_read {line} {minutes} {field} {more} {before} {after} {minute} {kept} sofar next writes as-kept same =
-    let pushed : more ≡ minutes ++ minute ∷ [] = as-kept ∙ ap (λ m. minutes ++ m ∷ []) same in
-    record {
-      fields =
-          sofar.fields
-          ∙ ap (λ ws. map decimal minutes ++ ws) (next ∙ ap (λ w. w ∷ after) writes.text)
-          ∙ sym (append_assoc (map decimal minutes) (decimal minute ∷ []) after)
-          ∙ ap (λ ws. ws ++ after) (sym (map_push decimal minutes minute))
-          ∙ ap (λ ms. map decimal ms ++ after) (sym pushed);
-      short = subst (AllByRecursion Short) (sym pushed) (All-push Short minutes minute sofar.short writes.short);
-    }
-
--- all fields were read
-pub all_read : {line minutes : List ℕ} {left : List (List ℕ)} → Sofar line minutes left → left ≡ [] → States line minutes
-all_read {line} {minutes} {left} sofar none =
-    let same : parts line ≡ map decimal minutes = sofar.fields ∙ ap (λ ws. map decimal minutes ++ ws) none ∙ append-nil (map decimal minutes) in
-    record {
-      text = sym (joined_parts line) ∙ ap joined same;
-      some = omega (arith, parts_some line, ap length same, length-map minutes decimal);
-      short = sofar.short;
-    }
 
 -- the next field is no number
 pub none_read : {line minutes field : List ℕ} {left after : List (List ℕ)} {event : ℕ} → Sofar line minutes left → left ≡ field ∷ after → ((minute : ℕ) → Writes field minute → ⊥) → event ≡ length minutes → FirstFault line event
@@ -55,3 +32,7 @@ none_read {line} {minutes} {field} {left} {after} {event} sofar next none count 
         },
       );
     }
+
+-- a text has one part more at most than bytes
+pub few_parts : (line : List ℕ) → length line < 2 ^ 63 → length (parts line) < 2 ^ 64
+few_parts line short = omega (arith, length-slice_split (λ byte. eqb byte comma) line, count_by-le-length (λ byte. eqb byte comma) line)

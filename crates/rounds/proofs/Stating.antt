@@ -1,19 +1,22 @@
 -- What a line states: one round, or none where a field writes no number.
-use Rattle.std.proofs.Common.{◌≡◌, ℕ, ◌<◌, List, [], ◌∷◌, map, length, get_or, decimal, sym, refl, ap, ◌∙◌, arith}
+use Rattle.std.proofs.Common.{◌≡◌, ℕ, ◌<◌, false, eqb, ne_eqb, List, [], ◌∷◌, map, length, get_or, decimal, sym, refl, ap, ◌∙◌, arith}
 use lib.ListN.{length-map}
 use Rattle.std.specs.List.{AllByRecursion}
 use Rattle.std.proofs.lemmas.Fmt.{decimal_is_IsNumeral, decimal_injective}
 use Rattle.std.proofs.ByRecursion.{All-get_or, All-weaker, All-map}
 use Rattle.std.proofs.lemmas.List.{get_or-map}
 use Rattle.std.proofs.lemmas.Str.Parse.{digit_at}
-use Rattle.fields.specs.Fields.{parts}
+use Rattle.std.proofs.lemmas.List.Elements.{All-from_get_or}
+use Rattle.fields.specs.Fields.{comma, parts}
 use Rattle.fields.specs.Numbers.{Short}
 use Rattle.fields.proofs.Joins.{Whole, parts_joined}
 use Rattle.rounds.specs.Round.{States, OneRound, NoRound}
 
 -- a decimal text has no comma
 decimal_whole : (n : ℕ) → Short n → Whole (decimal n)
-decimal_whole n lt k within e = omega (arith, digit_at (decimal n) k (decimal_is_IsNumeral n (omega arith)).0.1 within)
+decimal_whole n lt =
+    All-from_get_or (λ byte. eqb byte comma ≡ false) (decimal n) 0
+    (λ k within. let digit = digit_at (decimal n) k (decimal_is_IsNumeral n (omega arith)).0.1 within in ne_eqb (get_or (decimal n) k 0) comma (λ e. omega arith))
 
 -- the fields of a line are the texts of the minutes that it states
 stated_parts : (line minutes : List ℕ) → States line minutes → parts line ≡ map decimal minutes

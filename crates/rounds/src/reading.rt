@@ -5,6 +5,8 @@ ghost use Rattle.rounds.specs.declared.reading.RoundFault.TheVariants.{NoMemory}
 
 use fields::{Fields, IllFormed, natural};
 use std::alloc::{AllocFailed, Global};
+use std::error::Error;
+use std::fmt;
 
 /// Why a line states no round.
 #[derive(Clone, Copy, PartialEq, Eq, Debug)]
@@ -14,6 +16,17 @@ pub enum RoundFault {
     /// Memory ran out.
     NoMemory,
 }
+
+impl fmt::Display for RoundFault {
+    fn fmt<W: fmt::Write>(&self, f: &mut fmt::Formatter<W>) -> fmt::Result {
+        match self {
+            Self::NotANumber { event } => write!(f, "the minute of event {event} is no number"),
+            Self::NoMemory => write!(f, "out of memory"),
+        }
+    }
+}
+
+impl Error for RoundFault {}
 
 /// A minute that found no memory.
 impl From<AllocFailed<u32>> for RoundFault {
@@ -33,14 +46,10 @@ pub fn read_round(heap: Global, line: &[u8]) -> Result<Vec<u32>, RoundFault>
         (λ fault. Refuses line.now fault) }
 {
     let mut minutes = Vec::new(heap);
-    let mut fields = Fields::of(line);
-    while let Some(field) = fields.next() {
+    for (event, field) in Fields::of(line).enumerate() {
         match natural(field) {
             Ok(minute) => minutes.push(minute)?,
-            Err(IllFormed) => {
-                let event = minutes.len();
-                return Err(RoundFault::NotANumber { event });
-            }
+            Err(IllFormed) => return Err(RoundFault::NotANumber { event }),
         }
     }
     Ok(minutes)

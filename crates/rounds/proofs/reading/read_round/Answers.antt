@@ -1,12 +1,17 @@
-use Rattle.std.proofs.Common.{arith}
-use Rattle.rounds.proofs.Loop.{one_read, all_read, none_read}
+use Rattle.std.proofs.Common.{◌≡◌, ◌^◌, ◌<◌, length, vec_items, inl, arith}
+use Rattle.fields.specs.Fields.{parts, left}
+use Rattle.rounds.proofs.Loop.{few_parts, none_read}
 use Rattle.rounds.proofs.reading.read_round.Goals as goal
 
-pub loop-field-preserved : goal.loop-field-preserved
-loop-field-preserved c = one_read c.loop-field.invariant c.in-Some.ensures.takes c.in-Ok.ensures c.in_ok-push-in-Ok.ensures.items (omega arith)
+pub loop-event-init-derived : goal.loop-event-init-derived
+loop-event-init-derived c =
+    let few : length (parts c.args.line.now) < 2 ^ 64 = few_parts c.args.line.now (omega arith) in
+    let start : c.into_iter-event-iterator.result.count ≡ 0 = cc in
+    let all : left c.into_iter-event-iterator.result.iter ≡ parts c.args.line.now = cc in
+    ((tt, tt, inl (rw all (omega arith))), tt)
 
 pub returns-in-Err : goal.returns-in-Err
-returns-in-Err c = none_read c.loop-field.invariant c.in-Some.ensures.takes c.in-Err.ensures (omega (arith, c.len-event.ensures, c.loop-field.minutes.ok.0))
-
-pub returns : goal.returns
-returns c = all_read c.loop-field.invariant c.in_default.ensures.takes
+returns-in-Err c =
+    let steps = c.in-Some.ensures.steps in
+    let count : c.in-Some.event ≡ length (vec_items c.loop-event.minutes) = cc in
+    none_read c.loop-event.invariant.0 steps.0 c.in-Err.ensures count
