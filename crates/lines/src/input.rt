@@ -18,7 +18,7 @@ pub struct Lines<R> {
 impl<R: Read + Drop> Iterator for Lines<R> {
     type Item = io::Result<Line>;
 
-    ghost next_gives = { TellsInTurn };
+    ghost next_gives = { TellsInTurn R.remaining };
 
     ghost remaining = { lines_left };
 
