@@ -1,4 +1,5 @@
 -- The three ways of counting, by arithmetic.
+--   points_way                     a way that keeps one number: points, joined somehow and stopped
 --   sum, worst, tier               the costs of plain numbers, within the stops
 --   sum_way, worst_way, tier_way   SUM, WORST and TIER
 use Rattle.std.specs.Prelude.{ℕ, ◌+◌, ◌≤◌, min, max, cond, ◌&&◌, ◌||◌, ◌==◌, nat_le, nat_lt}
@@ -10,33 +11,31 @@ use Rattle.counting.specs.declared.costs.Sum.{Sum}
 use Rattle.counting.specs.declared.costs.Worst.{Worst}
 use Rattle.counting.specs.declared.costs.Tier.{Tier}
 
+-- a cost is one number: it is made of points, joined with another, compared as a number, and shown after 0
+abbrev pub points_way : {C : Type 0} (number : C → ℕ) (make : ℕ → C) (join : ℕ → ℕ → ℕ) → Way C
+points_way number make join = record {
+  zero = make 0;
+  reading = λ p. make p.points;
+  join = λ x y. make (join (number x) (number y));
+  atmost = λ x y. nat_le (number x) (number y);
+  shown = λ x. record { first = 0; second = number x };
+}
+
 -- n points, stopped
 abbrev pub sum : ℕ → Sum
 sum n = record { total = min n points_stop; stops = omega arith }
 
--- SUM adds points and shows 0 and the total
+-- SUM adds points
 abbrev pub sum_way : Way Sum
-sum_way = record {
-  zero = sum 0;
-  reading = λ p. sum p.points;
-  join = λ x y. sum (x.total + y.total);
-  atmost = λ x y. nat_le x.total y.total;
-  shown = λ x. record { first = 0; second = x.total };
-}
+sum_way = points_way (λ x. x.total) sum (λ m n. m + n)
 
 -- n points, stopped
 abbrev pub worst : ℕ → Worst
 worst n = record { largest = min n max_points; stops = omega arith }
 
--- WORST keeps the larger points and shows 0 and the largest
+-- WORST keeps the larger points
 abbrev pub worst_way : Way Worst
-worst_way = record {
-  zero = worst 0;
-  reading = λ p. worst p.points;
-  join = λ x y. worst (max x.largest y.largest);
-  atmost = λ x y. nat_le x.largest y.largest;
-  shown = λ x. record { first = 0; second = x.largest };
-}
+worst_way = points_way (λ x. x.largest) worst max
 
 -- the points of b breaches and p points: stopped, and at their stop where the breaches pass theirs
 abbrev pub tier_points : ℕ → ℕ → ℕ

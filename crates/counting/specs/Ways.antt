@@ -2,7 +2,9 @@
 --   Way      a zero cost, the reading of a penalty, the joining of two costs, 'at most', and the showing of a cost
 --   AtMost   one cost is at most another
 --   Laws     what a way of counting keeps
-use Rattle.std.specs.Prelude.{◌≡◌, ◌^◌, ◌<◌, Bool, true, ◌⊎◌}
+--   shown_text   what is printed of a cost
+use Rattle.std.specs.Prelude.{◌≡◌, ℕ, ◌^◌, ◌<◌, Bool, true, ◌⊎◌, List, ◌∷◌, ◌++◌}
+use Rattle.std.specs.Fmt.{decimal}
 use Rattle.counting.specs.declared.penalty.Penalty.{Penalty}
 use Rattle.counting.specs.declared.way.Shown.{Shown}
 
@@ -34,3 +36,7 @@ module _ {C : Type 0} (way : Way C) where
     pub mono : (x y z : C) → AtMost x y → AtMost (way.join x z) (way.join y z)
     -- a cost is shown as two numbers below 2^32
     pub fits : (x : C) → ((way.shown x).first < 2 ^ 32) × ((way.shown x).second < 2 ^ 32)
+
+-- the first number, a comma (44) and the second number
+abbrev pub shown_text : Shown → List ℕ
+shown_text shown = decimal shown.first ++ (44 ∷ decimal shown.second)

@@ -1,4 +1,5 @@
 //! SUM: points are added.
+ghost use Rattle.std.specs.Prelude.{refl};
 ghost use Rattle.counting.specs.Three.{sum_way};
 ghost use Rattle.counting.specs.Lawful.{sum_lawful};
 
@@ -10,13 +11,9 @@ use crate::way::{Counting, Shown};
 impl Counting for Sum {
     ghost way = { sum_way };
 
+    ghost ZERO = { sum_way.zero };
+
     const ZERO: Sum = Sum { total: 0 };
-
-    ghost lawful = { sum_lawful };
-
-    fn zero_cost() -> Sum {
-        Self::ZERO
-    }
 
     fn reading(penalty: Penalty) -> Sum {
         Sum {
@@ -31,7 +28,7 @@ impl Counting for Sum {
     }
 
     fn at_most(self, other: Sum) -> bool {
-        self.total <= other.total
+        self <= other
     }
 
     fn shown(self) -> Shown {
@@ -40,4 +37,8 @@ impl Counting for Sum {
             second: self.total,
         }
     }
+
+    ghost zero = { refl };
+
+    ghost lawful = { sum_lawful };
 }

@@ -1,5 +1,5 @@
 //! TIER: breaches weigh more than any points.
-ghost use Rattle.std.specs.Prelude.{◌≡◌};
+ghost use Rattle.std.specs.Prelude.{◌≡◌, refl};
 ghost use Rattle.counting.specs.Three.{tier, tier_way};
 ghost use Rattle.counting.specs.Lawful.{tier_lawful};
 
@@ -27,16 +27,12 @@ fn stopped(breaches: u32, points: u32) -> Tier
 impl Counting for Tier {
     ghost way = { tier_way };
 
+    ghost ZERO = { tier_way.zero };
+
     const ZERO: Tier = Tier {
         breaches: 0,
         points: 0,
     };
-
-    ghost lawful = { tier_lawful };
-
-    fn zero_cost() -> Tier {
-        Self::ZERO
-    }
 
     fn reading(penalty: Penalty) -> Tier {
         stopped(penalty.breaches, penalty.points)
@@ -47,8 +43,7 @@ impl Counting for Tier {
     }
 
     fn at_most(self, other: Tier) -> bool {
-        self.breaches < other.breaches
-            || (self.breaches == other.breaches && self.points <= other.points)
+        self <= other
     }
 
     fn shown(self) -> Shown {
@@ -57,4 +52,8 @@ impl Counting for Tier {
             second: self.points,
         }
     }
+
+    ghost zero = { refl };
+
+    ghost lawful = { tier_lawful };
 }

@@ -1,8 +1,9 @@
 //! What a way of counting is.
-ghost use Rattle.std.specs.Prelude.{◌≡◌};
-ghost use Rattle.counting.specs.Ways.{Way, Laws};
+ghost use Rattle.std.specs.Prelude.{◌≡◌, Some};
+ghost use Rattle.counting.specs.Ways.{Way, Laws, shown_text};
 
 use crate::penalty::Penalty;
+use std::fmt;
 
 /// The two numbers by which a cost is printed.
 #[derive(Clone, Copy, PartialEq, Eq, Debug)]
@@ -11,17 +12,25 @@ pub struct Shown {
     pub second: u32,
 }
 
+/// Both numbers with a comma between them.
+impl fmt::Display for Shown {
+    ghost output = { λ shown. Some (shown_text shown) };
+
+    fn fmt<W: fmt::Write>(&self, f: &mut fmt::Formatter<W>) -> fmt::Result {
+        let Shown { first, second } = *self;
+        write!(f, "{first},{second}")
+    }
+}
+
 /// A way of counting: a type of costs with a zero, a reading of penalties, a join, an order and a showing.
 /// Its ghost member says which they are, and its law what a search may rely on.
 pub trait Counting: Copy {
     ghost way: { Way Self };
 
+    ghost ZERO: { Self };
+
     /// The zero cost.
     const ZERO: Self;
-
-    /// The zero cost, by a function, so that its contract can say which value it is.
-    fn zero_cost() -> Self
-        ensures { result ≡ way.zero };
 
     /// The cost of a penalty.
     fn reading(penalty: Penalty) -> Self
@@ -39,5 +48,14 @@ pub trait Counting: Copy {
     fn shown(self) -> Shown
         ensures { result ≡ way.shown self };
 
+    ghost zero: { ZERO ≡ way.zero };
+
     ghost lawful: { Laws way };
+
+    /// The zero cost.
+    final fn zero_cost() -> Self
+        ensures { result ≡ way.zero }
+    {
+        Self::ZERO
+    }
 }

@@ -1,4 +1,5 @@
 //! WORST: the larger points are kept.
+ghost use Rattle.std.specs.Prelude.{refl};
 ghost use Rattle.counting.specs.Three.{worst_way};
 ghost use Rattle.counting.specs.Lawful.{worst_lawful};
 
@@ -9,13 +10,9 @@ use crate::way::{Counting, Shown};
 impl Counting for Worst {
     ghost way = { worst_way };
 
+    ghost ZERO = { worst_way.zero };
+
     const ZERO: Worst = Worst { largest: 0 };
-
-    ghost lawful = { worst_lawful };
-
-    fn zero_cost() -> Worst {
-        Self::ZERO
-    }
 
     fn reading(penalty: Penalty) -> Worst {
         Worst {
@@ -30,7 +27,7 @@ impl Counting for Worst {
     }
 
     fn at_most(self, other: Worst) -> bool {
-        self.largest <= other.largest
+        self <= other
     }
 
     fn shown(self) -> Shown {
@@ -39,4 +36,8 @@ impl Counting for Worst {
             second: self.largest,
         }
     }
+
+    ghost zero = { refl };
+
+    ghost lawful = { worst_lawful };
 }
