@@ -1,6 +1,6 @@
 -- The rules of a problem, by what they say, and the vector that holds them.
 use Rattle.std.proofs.Common.{◌≡◌, ℕ, zero, suc, true, List, [], ◌∷◌, ◌++◌, map, length, take, drop, vec_items, vec_len, sym, refl, ap, ◌∙◌, ap₂}
-use Rattle.std.proofs.lemmas.List.{length-map, map_push, map-append, take-map, drop-map, nil_from_length}
+use Rattle.std.proofs.lemmas.List.{length-map, map_push, map-append, take-map, drop-map}
 use Rattle.std.specs.List.{flat_map, remove}
 use Rattle.problem.specs.declared.constraint.Constraint.{Constraint}
 use Rattle.problem.specs.Checks.{Check, passes}
@@ -11,9 +11,6 @@ use Rattle.problem.specs.Problems.{rules_of}
 
 pub rules_count : (p : Problem) → length (rules_of p) ≡ vec_len p.rules
 rules_count p = length-map (vec_items p.rules) rule_of ∙ sym p.rules.ok.0
-
-pub rules_none : (p : Problem) → vec_len p.rules ≡ 0 → rules_of p ≡ []
-rules_none p e = nil_from_length (rules_of p) (rules_count p ∙ e)
 
 -- one constraint more
 pub rules_push : (cs ds : List Constraint) (c : Constraint) → ds ≡ cs ++ c ∷ [] → map rule_of ds ≡ map rule_of cs ++ rule_of c ∷ []

@@ -32,7 +32,7 @@ fn check_kind(kind: Kind) -> Result<(), Refusal>
 pub fn is_bound(minutes: i32) -> bool
     ensures { result ≡ in_range minutes }
 {
-    -MAX_BOUND <= minutes && minutes <= MAX_BOUND
+    (-MAX_BOUND..=MAX_BOUND).contains(&minutes)
 }
 
 fn check_disjunct(day: Day, disjunct: &Disjunct) -> Result<(), Refusal>
@@ -68,8 +68,7 @@ fn check_disjuncts(day: Day, disjuncts: &[Disjunct]) -> Result<(), Refusal>
 pub fn check_rule(day: Day, rule: &Constraint) -> Result<(), Refusal>
     ensures { result_err result ≡ first_refusal (rule_checks day (rule_of rule.now)) }
 {
-    let count = rule.disjuncts.len();
-    if count < 1 || count > MAX_DISJUNCTS {
+    if !(1..=MAX_DISJUNCTS).contains(&rule.disjuncts.len()) {
         return Err(Refusal::DisjunctCount);
     }
     check_kind(rule.kind)?;

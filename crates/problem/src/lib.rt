@@ -13,4 +13,4 @@ pub use constraint::{Constraint, Disjunct, Kind, MAX_BOUND, MAX_DISJUNCTS};
 pub use day::{Day, MAX_EVENTS, MAX_HORIZON};
 pub use problems::{MAX_RULES, Problem, Unadopted};
 pub use refusal::Refusal;
-pub use timetable::{Flaw, check_timetable};
+pub use timetable::{Flaw, Timetable, check_timetable};

@@ -13,7 +13,7 @@ impl Day {
         ensures events { IfOk result (λ day. day.events ≡ events) }
         ensures horizon { IfOk result (λ day. day.horizon ≡ horizon) }
     {
-        if events < 1 || events > MAX_EVENTS {
+        if !(1..=MAX_EVENTS).contains(&events) {
             return Err(Refusal::EventCount);
         }
         if horizon > MAX_HORIZON {

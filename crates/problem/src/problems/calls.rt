@@ -38,6 +38,16 @@ impl Problem {
         Ok(())
     }
 
+    /// Whether the rule may be put last.
+    fn check_adoption(&self, rule: &Constraint) -> Result<(), Refusal>
+        ensures { result_err result ≡ first_refusal (adopt_checks self.now (rule_of rule.now)) }
+    {
+        if self.rules.len() >= MAX_RULES {
+            return Err(Refusal::RuleCount);
+        }
+        check_rule(self.day, rule)
+    }
+
     /// Puts a rule last. Refuses with 4 where 32 rules stand, then as `check_rule` does; the rule is then handed back
     /// and the problem stays.
     pub fn adopt(&mut self, rule: Constraint) -> Result<(), Unadopted>
@@ -45,13 +55,7 @@ impl Problem {
         ensures day { self.new.day ≡ self.old.day }
         ensures cases { MatchResult result (λ _. rules_of self.new ≡ rules_of self.old ++ rule_of rule ∷ []) (λ e. (e.rule ≡ rule) × (self.new ≡ self.old)) }
     {
-        if self.rules.len() >= MAX_RULES {
-            return Err(Unadopted {
-                refusal: Refusal::RuleCount,
-                rule,
-            });
-        }
-        if let Err(refusal) = check_rule(self.day, &rule) {
+        if let Err(refusal) = self.check_adoption(&rule) {
             return Err(Unadopted { refusal, rule });
         }
         self.rules.push_reserved(rule);

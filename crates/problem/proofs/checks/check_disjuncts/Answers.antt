@@ -1,8 +1,6 @@
 use Rattle.std.proofs.Common.{sym, ◌∙◌}
-use Rattle.std.proofs.lemmas.List.{at_drop_all}
 use Rattle.std.proofs.lemmas.Result.{err_from_is_err_and}
-use Rattle.std.specs.List.{flat_map}
-use Rattle.problem.specs.Checks.{first_refusal, disjunct_checks}
+use Rattle.problem.specs.Checks.{disjunct_checks}
 use Rattle.problem.proofs.First.{past_end, first_passed, first_failed}
 use Rattle.problem.proofs.checks.check_disjuncts.Goals as goal
 
@@ -17,8 +15,3 @@ returns-in_err-check_disjunct c =
     rw (p.1, p.2)
     (first_failed (disjunct_checks c.args.day) c.args.disjuncts.now c.loop-disjunct.disjunct-index past_end c.loop-disjunct-test.true _ c.in_err-check_disjunct.ensures
     ∙ sym c.loop-disjunct.invariant)
-
-pub returns : goal.returns
-returns c =
-    sym (c.loop-disjunct.invariant
-    ∙ at_drop_all (λ ds. first_refusal (flat_map (disjunct_checks c.args.day) ds)) c.args.disjuncts.now c.loop-disjunct.disjunct-index c.loop-disjunct-test.false)
