@@ -92,22 +92,13 @@ module _ (T : ℕ → ℕ) where
   unmet_not_allowed [] k l u a = absurd (omega arith)
   unmet_not_allowed (r ∷ rs) k l u a = unmet_unsatisfied (get_or (r ∷ rs) k r) (u r) (All-get_or (Satisfies T) (r ∷ rs) k r l a)
 
--- what holds of every rule holds of the one that a constraint states
-pub all_said : (P : Rule → Type 0) (cs : List Constraint) (i : ℕ) (r : Constraint) → i < length cs → r ≡ get_or cs i r → AllByRecursion P (map rule_of cs) → P (rule_of r)
-all_said P cs i r l e h =
-    let m : i < length (map rule_of cs) = simp length-map l in
-    subst P (get_or-map rule_of cs i r (rule_of r) l ∙ ap rule_of (sym e)) (All-get_or P (map rule_of cs) i (rule_of r) m h)
-
 module _ {C : Type 0} (way : Way C) (T : ℕ → ℕ) where
-  -- the rules before cost something, and this one, the one of number k, is not met
+  -- the rules before cost something, and this one is not met
   pub first_unmet : (cs : List Constraint) (i : ℕ) (r : Constraint) (c : C) → i < length cs → r ≡ get_or cs i r → Costs way T (map rule_of (take i cs)) c
-      → Unmet T (choices (rule_of r)) → (k : ℕ) → i ≡ k → (k < length (map rule_of cs)) × AllByRecursion (Satisfies T) (take k (map rule_of cs)) × HoldsAt (λ x. Unmet T (choices x)) (map rule_of cs) k
-  first_unmet cs i r c l e h u k n =
-      let P : ℕ → Type 0 = λ j. (j < length (map rule_of cs)) × AllByRecursion (Satisfies T) (take j (map rule_of cs)) × HoldsAt (λ x. Unmet T (choices x)) (map rule_of cs) j in
-      let m : i < length (map rule_of cs) = simp length-map l in
-      let same : (d : Rule) → get_or (map rule_of cs) i d ≡ rule_of r = λ d. get_or-map rule_of cs i r d l ∙ ap rule_of (sym e) in
-      subst P n (
-        m,
+      → Unmet T (choices (rule_of r)) → (i < length (map rule_of cs)) × AllByRecursion (Satisfies T) (take i (map rule_of cs)) × HoldsAt (λ x. Unmet T (choices x)) (map rule_of cs) i
+  first_unmet cs i r c l e h u =
+      let same : (d : Rule) → get_or (map rule_of cs) i d ≡ rule_of r = λ d. get_or-map rule_of cs i r d l ∙ ap rule_of (sym e) in (
+        simp length-map l,
         subst (AllByRecursion (Satisfies T)) (sym (take-map rule_of i cs)) (costs_allowed way T (map rule_of (take i cs)) c h),
         λ d. subst (λ x. Unmet T (choices x)) (sym (same d)) u,
       )

@@ -14,8 +14,8 @@ use Rattle.problem.specs.Rules.{Rule}
 use Rattle.problem.specs.Timetables.{OfDay, minute, Meets, Satisfies, Allowed}
 use Rattle.problem.specs.declared.constraint.Kind.TheVariants.{Firm}
 use Rattle.problem.specs.declared.problems.Problem.{Problem}
-use Rattle.costing.specs.declared.cost.Objection.{Objection}
-use Rattle.costing.specs.declared.cost.Objection.TheVariants.{NoTimetable, Forbidden}
+use Rattle.costing.specs.declared.objection.Objection.{Objection}
+use Rattle.costing.specs.declared.objection.Objection.TheVariants.{NoTimetable, Forbidden}
 
 -- one minute for each event of the day, and a timetable of it
 abbrev pub Timetable : Problem → List ℕ → Type 0

@@ -1,48 +1,54 @@
 -- What the functions below `cost_of` look for.
---   Reads        an option's events have minutes
---   ReadsAll    the events of all options of a rule do
---   WithinWeek   no minute is past a week
---   lesser       the lesser of two costs, the first where they rank alike
---   Unmet        a timetable meets none of some choices
---   Cheapest     the least cost among the choices that a timetable meets, if it meets any
---   Totalled     what the rules cost together, or the first of which a timetable meets no choice
-use Rattle.std.specs.Prelude.{ℕ, ◌<◌, ◌≤◌, cond, List, length, take, Some, None, Ok, Err, Option, Result}
-use Rattle.std.specs.List.{HoldsAt, AllByRecursion}
+--   gives           the minute that a timetable gives each event
+--   in_bounds       whether it meets an option
+--   given_up_cost   the cost of giving up a rule of a kind, unless it is firm
+--   lesser          the lesser of two costs, the first where they rank alike
+--   met_costs       the costs of the options that a timetable meets
+--   least_cost      the least of costs
+--   Unmet           a timetable meets none of some choices
+--   Cheapest        the least cost among the choices that a timetable meets, if it meets any
+use Rattle.std.specs.Prelude.{ℕ, Bool, cond, ◌&&◌, List, map, fold, Some, None, Option, int_le}
+use Rattle.std.specs.List.{AllByRecursion, filter}
 use Rattle.counting.specs.Ways.{Way}
-use Rattle.problem.specs.Bounds.{max_horizon}
-use Rattle.problem.specs.Costs.{Least, Costs}
-use Rattle.problem.specs.Rules.{Rule}
-use Rattle.problem.specs.Timetables.{minute, Choice, choices, Chosen, Satisfies}
+use Rattle.problem.specs.Costs.{Least}
+use Rattle.problem.specs.Timetables.{minute, gap, Choice, Chosen}
 use Rattle.problem.specs.declared.constraint.Disjunct.{Disjunct}
+use Rattle.problem.specs.declared.constraint.Kind.{Kind}
+use Rattle.problem.specs.declared.constraint.Kind.TheVariants.{Firm, Wish}
+use Rattle.problem.specs.declared.timetable.Timetable.{Timetable}
 
--- both events have a minute
-abbrev pub Reads : List ℕ → Disjunct → Type 0
-Reads ms d = (d.x < length ms) × (d.y < length ms)
+-- the minutes in the order of the events
+abbrev pub gives : Timetable → ℕ → ℕ
+gives t = minute t.minutes.now
 
--- the events of all its options have a minute
-abbrev pub ReadsAll : List ℕ → Rule → Type 0
-ReadsAll ms r = AllByRecursion (Reads ms) r.options
-
--- each minute is at most the latest horizon
-abbrev pub WithinWeek : List ℕ → Type 0
-WithinWeek ms = (i : ℕ) → i < length ms → minute ms i ≤ max_horizon
+-- as `Meets`
+abbrev pub in_bounds : (ℕ → ℕ) → Disjunct → Bool
+in_bounds T d = int_le d.lo (gap T d.x d.y) && int_le (gap T d.x d.y) d.hi
 
 -- T meets none of them
 abbrev pub Unmet : (ℕ → ℕ) → List Choice → Type 0
 Unmet T chs = AllByRecursion (λ ch. Chosen T ch → ⊥) chs
 
 module _ {C : Type 0} (way : Way C) where
+  -- that of a wish
+  abbrev pub given_up_cost : Kind → Option C
+  given_up_cost Firm = None
+  given_up_cost (Wish p) = Some (way.reading p)
+
   -- the first, unless the second is lower
   abbrev pub lesser : Option C → C → C
   lesser None c = c
   lesser (Some b) c = cond (way.atmost b c) b c
 
+  -- the costs of the options that T meets, in order
+  abbrev pub met_costs : (ℕ → ℕ) → List Disjunct → List C
+  met_costs T ds = map (λ d. way.reading d.penalty) (filter (in_bounds T) ds)
+
+  -- the least of costs, one after another, beginning with what is kept
+  abbrev pub least_cost : Option C → List C → Option C
+  least_cost kept cs = fold (λ least c. Some (lesser least c)) kept cs
+
   -- none is met, or c is the least
   abbrev pub Cheapest : (ℕ → ℕ) → List Choice → Option C → Type 0
   Cheapest T chs None = Unmet T chs
   Cheapest T chs (Some c) = Least way T chs c
-
-  -- their cost, or the place of the first of which no choice is met
-  abbrev pub Totalled : (ℕ → ℕ) → List Rule → Result C ℕ → Type 0
-  Totalled T rules (Ok c) = Costs way T rules c
-  Totalled T rules (Err k) = (k < length rules) × AllByRecursion (Satisfies T) (take k rules) × HoldsAt (λ r. Unmet T (choices r)) rules k

@@ -1,21 +1,28 @@
-//! The cost of one rule: the least among the choices that the minutes meet.
-ghost use Rattle.std.specs.Prelude.{◌≡◌, map, Decides};
-ghost use Rattle.std.specs.List.{AllByRecursion};
+//! The cost of one rule: the least among the choices that a timetable meets.
+ghost use Rattle.std.specs.Prelude.{◌≡◌};
 ghost use Rattle.problem.specs.Rules.{rule_of};
-ghost use Rattle.problem.specs.Timetables.{minute, Meets, Choice, choices};
-ghost use Rattle.costing.specs.Cheapest.{Reads, ReadsAll, WithinWeek, lesser, Cheapest};
+ghost use Rattle.problem.specs.Timetables.{choices};
+ghost use Rattle.costing.specs.Cheapest.{gives, in_bounds, given_up_cost, lesser, met_costs, least_cost, Cheapest};
 
 use counting::Counting;
-use problem::{Constraint, Disjunct, Kind};
+use problem::{Constraint, Disjunct, Kind, Timetable};
 
-/// Whether the minutes meet the disjunct.
-fn meets(disjunct: &Disjunct, minutes: &[u32]) -> bool
-    requires reads { Reads minutes.now disjunct.now }
-    requires weekly { WithinWeek minutes.now }
-    ensures { Decides result (Meets (minute minutes.now) disjunct.now) }
+/// Whether the timetable meets the disjunct.
+fn meets(disjunct: &Disjunct, timetable: &Timetable) -> bool
+    ensures { result ≡ in_bounds (gives timetable.now) disjunct.now }
 {
-    let gap = minutes[disjunct.x] as i32 - minutes[disjunct.y] as i32;
-    disjunct.lo <= gap && gap <= disjunct.hi
+    let gap = timetable.minute(disjunct.x) as i32 - timetable.minute(disjunct.y) as i32;
+    (disjunct.lo..=disjunct.hi).contains(&gap)
+}
+
+/// The cost of giving a rule of this kind up, unless it is firm.
+fn given_up<W: Counting>(kind: Kind) -> Option<W>
+    ensures { result ≡ given_up_cost W.Counting.way kind }
+{
+    match kind {
+        Kind::Firm => None,
+        Kind::Wish(penalty) => Some(W::reading(penalty)),
+    }
 }
 
 /// The lesser of two costs, the first where they rank alike.
@@ -28,30 +35,24 @@ fn lesser_of<W: Counting>(kept: Option<W>, cost: W) -> W
     }
 }
 
-/// The least cost among the disjuncts that the minutes meet, if they meet any.
-fn least_met<W: Counting>(disjuncts: &[Disjunct], minutes: &[u32]) -> Option<W>
-    requires reads { AllByRecursion (Reads minutes.now) disjuncts.now }
-    requires weekly { WithinWeek minutes.now }
-    ensures { Cheapest W.Counting.way (minute minutes.now) (map Choice.option disjuncts.now) result }
+/// The least of what is kept and of the costs of the disjuncts that the timetable meets, if there is any.
+fn least_met<W: Counting>(
+    kept: Option<W>,
+    disjuncts: &[Disjunct],
+    timetable: &Timetable,
+) -> Option<W>
+    ensures { result ≡ least_cost W.Counting.way kept (met_costs W.Counting.way (gives timetable.now) disjuncts.now) }
 {
-    let mut least = None;
-    for disjunct in disjuncts {
-        if meets(disjunct, minutes) {
-            least = Some(lesser_of(least, W::reading(disjunct.penalty)));
-        }
-    }
-    least
+    disjuncts
+        .iter()
+        .filter(|disjunct| meets(disjunct, timetable))
+        .map(|disjunct| W::reading(disjunct.penalty))
+        .fold(kept, |least, cost| Some(lesser_of(least, cost)))
 }
 
-/// The least cost among the rule's choices that the minutes meet, if they meet any.
-pub(crate) fn rule_cost<W: Counting>(rule: &Constraint, minutes: &[u32]) -> Option<W>
-    requires reads { ReadsAll minutes.now (rule_of rule.now) }
-    requires weekly { WithinWeek minutes.now }
-    ensures { Cheapest W.Counting.way (minute minutes.now) (choices (rule_of rule.now)) result }
+/// The least cost among the rule's choices that the timetable meets, if it meets any.
+pub(crate) fn rule_cost<W: Counting>(rule: &Constraint, timetable: &Timetable) -> Option<W>
+    ensures { Cheapest W.Counting.way (gives timetable.now) (choices (rule_of rule.now)) result }
 {
-    let least = least_met(rule.disjuncts.as_slice(), minutes);
-    match rule.kind {
-        Kind::Firm => least,
-        Kind::Wish(penalty) => Some(lesser_of(least, W::reading(penalty))),
-    }
+    least_met(given_up(rule.kind), rule.disjuncts.as_slice(), timetable)
 }

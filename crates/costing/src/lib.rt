@@ -3,5 +3,7 @@
 
 mod cost;
 mod least;
+mod objection;
 
-pub use cost::{Objection, cost_of};
+pub use cost::cost_of;
+pub use objection::Objection;

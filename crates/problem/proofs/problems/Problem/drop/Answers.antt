@@ -1,5 +1,5 @@
-use Rattle.std.proofs.Common.{◌≡◌, true, vec_items, sym, subst}
-use Rattle.std.specs.List.{flat_map}
+use Rattle.std.proofs.Common.{◌≡◌, true, vec_items, sym, subst, rules}
+use Rattle.std.specs.List.{flat_map, remove}
 use Rattle.problem.specs.Checks.{passes, rule_checks}
 use Rattle.problem.specs.Problems.{rules_of}
 use Rattle.problem.proofs.Said.{rules_removed, passes_removed}
@@ -13,4 +13,6 @@ invariant_of-self-clause-fit c =
     subst (λ rs. passes (flat_map (rule_checks p.day) rs) ≡ true) (sym said) (passes_removed (rule_checks p.day) (rules_of p) _ p.fit)
 
 pub returns-clause-cases : goal.returns-clause-cases
-returns-clause-cases c = rules_removed (vec_items c.args.self.now.rules) _ _ c.remove.ensures.items
+returns-clause-cases c =
+    let removed : c.remove.new.self.items ≡ remove (vec_items c.args.self.now.rules) c.args.number = search rules in
+    rules_removed (vec_items c.args.self.now.rules) _ _ removed
