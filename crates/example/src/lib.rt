@@ -5,37 +5,40 @@ ghost use Rattle.std.specs.Prelude.{◌≡◌, ◌<◌, [], ◌∷◌, ◌++◌,
 ghost use Rattle.problem.specs.Bounds.{max_rules};
 ghost use Rattle.problem.specs.Checks.{first_refusal, rule_checks};
 ghost use Rattle.problem.specs.Problems.{MadeOf, rules_of};
-ghost use Rattle.example.specs.Example.{gap, stated, wish_for, example_rules};
+ghost use Rattle.example.specs.Example.{points_alone, gap, stated, wish_for, example_rules};
 
 use counting::Penalty;
 use problem::{Constraint, Disjunct, Kind, Problem};
 use std::alloc::{AllocError, Global};
 
-/// Event `x` comes `lo` to `hi` minutes after event `y`, at a penalty of so many points.
-fn option(x: usize, y: usize, lo: i32, hi: i32, points: u32) -> Disjunct
-    ensures { result ≡ gap x y lo hi points }
+/// A penalty of so many points.
+fn penalty_of(points: u32) -> Penalty
+    ensures { result ≡ points_alone points }
 {
-    let penalty = Penalty {
+    Penalty {
         breaches: 0,
         points,
-    };
+    }
+}
+
+/// Event `x` comes `lo` to `hi` minutes after event `y`, at a penalty of so many points.
+pub fn gap(x: usize, y: usize, lo: i32, hi: i32, points: u32) -> Disjunct
+    ensures { result ≡ gap x y lo hi points }
+{
     Disjunct {
         x,
         y,
         lo,
         hi,
-        penalty,
+        penalty: penalty_of(points),
     }
 }
 
 /// A wish that costs so many points to give up.
-fn wish(points: u32) -> Kind
+pub fn wish(points: u32) -> Kind
     ensures { result ≡ wish_for points }
 {
-    Kind::Wish(Penalty {
-        breaches: 0,
-        points,
-    })
+    Kind::Wish(penalty_of(points))
 }
 
 /// Puts a rule last that fits the day. Fails only for want of memory.
@@ -50,10 +53,8 @@ fn adopt(
     ensures { OnOk result ((rules_of problem.new ≡ rules_of problem.old ++ stated kind options.now ∷ []) × (problem.new.day ≡ problem.old.day)) }
 {
     let disjuncts = Vec::from_slice(heap, options)?;
-    match problem.adopt(Constraint { kind, disjuncts }) {
-        Ok(()) => Ok(()),
-        Err(_) => unreachable(),
-    }
+    problem.adopt(Constraint { kind, disjuncts }).unwrap();
+    Ok(())
 }
 
 /// The example: three events within 60 minutes. Firm: events 1 and 2 are 15 to 60 minutes apart. Wish for 40 points:
@@ -63,21 +64,19 @@ pub fn example_problem(heap: Global) -> Result<Problem, AllocError>
     ensures { IfOk result (λ problem. MadeOf 3 60 example_rules problem) }
 {
     let mut problem = Problem::new(heap)?;
-    if problem.set(3, 60).is_err() {
-        unreachable();
-    }
+    problem.set(3, 60).unwrap();
     adopt(
         &mut problem,
         heap,
         Kind::Firm,
-        &[option(1, 2, 15, 60, 0), option(2, 1, 15, 60, 0)],
+        &[gap(1, 2, 15, 60, 0), gap(2, 1, 15, 60, 0)],
     )?;
-    adopt(&mut problem, heap, wish(40), &[option(2, 0, 0, 10, 0)])?;
+    adopt(&mut problem, heap, wish(40), &[gap(2, 0, 0, 10, 0)])?;
     adopt(
         &mut problem,
         heap,
         wish(30),
-        &[option(1, 0, 0, 5, 0), option(1, 0, 6, 20, 10)],
+        &[gap(1, 0, 0, 5, 0), gap(1, 0, 6, 20, 10)],
     )?;
     Ok(problem)
 }
