@@ -1,144 +1,163 @@
 //! Rules at the edges of what a problem adopts.
 use counting::Penalty;
-use problem::{Constraint, Disjunct, Kind, Problem};
+use example::gap;
+use problem::{Constraint, Disjunct, Kind, Problem, Refusal};
 use std::alloc::{AllocError, Global};
 use std::test::Fail;
 
-/// An option as a rule book would state it.
-fn option(x: usize, y: usize, lo: i32, hi: i32, breaches: u32, points: u32) -> Disjunct {
-    let penalty = Penalty { breaches, points };
+/// The option, at so many breaches.
+fn breaching(option: Disjunct, breaches: u32) -> Disjunct {
+    let points = option.penalty.points;
     Disjunct {
-        x,
-        y,
-        lo,
-        hi,
-        penalty,
+        penalty: Penalty { breaches, points },
+        ..option
     }
 }
 
-/// The number with which a problem refuses the rule, or 0.
-fn adopted(
+/// Puts a rule last in the problem.
+fn adopt(
     heap: Global,
     problem: &mut Problem,
     kind: Kind,
     options: &[Disjunct],
-) -> Result<u32, AllocError> {
+) -> Result<Result<(), Refusal>, AllocError> {
     let disjuncts = Vec::from_slice(heap, options)?;
-    Ok(match problem.adopt(Constraint { kind, disjuncts }) {
-        Ok(()) => 0,
-        Err(unadopted) => unadopted.refusal.number(),
-    })
+    Ok(
+        problem
+            .adopt(Constraint { kind, disjuncts })
+            .map_err(|unadopted| unadopted.refusal),
+    )
 }
 
-/// The number with which a fresh problem of three events and 60 minutes refuses the rule, or 0.
-fn refused(heap: Global, kind: Kind, options: &[Disjunct]) -> Result<u32, Fail> {
+/// What a fresh problem of three events and 60 minutes answers to the rule.
+fn offered(
+    heap: Global,
+    kind: Kind,
+    options: &[Disjunct],
+) -> Result<Result<(), Refusal>, AllocError> {
     let mut problem = Problem::new(heap)?;
-    if problem.set(3, 60).is_err() {
-        return Err(Fail::new("the day was refused"));
-    }
-    Ok(adopted(heap, &mut problem, kind, options)?)
+    problem.set(3, 60).unwrap();
+    adopt(heap, &mut problem, kind, options)
 }
 
 #[test]
 fn an_option_names_two_events_of_the_day(rt: HostRuntime) -> Result<(), Fail> {
     let heap = rt.alloc();
-    assert_eq!(rt; refused(heap, Kind::Firm, &[option(2, 0, 0, 5, 0, 0)])?, 0);
-    assert_eq!(rt; refused(heap, Kind::Firm, &[option(3, 0, 0, 5, 0, 0)])?, 6);
-    assert_eq!(rt; refused(heap, Kind::Firm, &[option(0, 3, 0, 5, 0, 0)])?, 6);
-    assert_eq!(rt; refused(heap, Kind::Firm, &[option(1, 1, 0, 5, 0, 0)])?, 6);
-    assert_eq!(rt; refused(heap, Kind::Firm, &[option(1, 1, 6, 5, 10, 0)])?, 6);
+    let strangers = Err(Refusal::EventPair);
+    assert_eq!(rt; offered(heap, Kind::Firm, &[gap(2, 0, 0, 5, 0)])?, Ok(()));
+    assert_eq!(rt;
+        offered(heap, Kind::Firm, &[gap(3, 0, 0, 5, 0)])?,
+        strangers
+    );
+    assert_eq!(rt;
+        offered(heap, Kind::Firm, &[gap(0, 3, 0, 5, 0)])?,
+        strangers
+    );
+    assert_eq!(rt;
+        offered(heap, Kind::Firm, &[gap(1, 1, 0, 5, 0)])?,
+        strangers
+    );
+    let twice = breaching(gap(1, 1, 6, 5, 0), 10);
+    assert_eq!(rt; offered(heap, Kind::Firm, &[twice])?, strangers);
     Ok(())
 }
 
 #[test]
 fn bounds_lie_within_a_week_and_in_order(rt: HostRuntime) -> Result<(), Fail> {
     let heap = rt.alloc();
+    let astray = Err(Refusal::BoundRange);
     assert_eq!(rt;
-        refused(heap, Kind::Firm, &[option(1, 0, -10_080, 10_080, 0, 0)])?,
-        0
+        offered(heap, Kind::Firm, &[gap(1, 0, -10_080, 10_080, 0)])?,
+        Ok(())
     );
-    assert_eq!(rt; refused(heap, Kind::Firm, &[option(1, 0, 5, 5, 0, 0)])?, 0);
+    assert_eq!(rt; offered(heap, Kind::Firm, &[gap(1, 0, 5, 5, 0)])?, Ok(()));
     assert_eq!(rt;
-        refused(heap, Kind::Firm, &[option(1, 0, -10_081, 5, 0, 0)])?,
-        7
+        offered(heap, Kind::Firm, &[gap(1, 0, -10_081, 5, 0)])?,
+        astray
     );
     assert_eq!(rt;
-        refused(heap, Kind::Firm, &[option(1, 0, 5, 10_081, 0, 0)])?,
-        7
+        offered(heap, Kind::Firm, &[gap(1, 0, 5, 10_081, 0)])?,
+        astray
     );
-    assert_eq!(rt; refused(heap, Kind::Firm, &[option(1, 0, 6, 5, 0, 0)])?, 7);
-    assert_eq!(rt; refused(heap, Kind::Firm, &[option(1, 0, 6, 5, 10, 0)])?, 7);
+    assert_eq!(rt; offered(heap, Kind::Firm, &[gap(1, 0, 6, 5, 0)])?, astray);
+    let turned = breaching(gap(1, 0, 6, 5, 0), 10);
+    assert_eq!(rt; offered(heap, Kind::Firm, &[turned])?, astray);
     Ok(())
 }
 
 #[test]
 fn penalties_stop_at_nine_breaches_and_a_million_points(rt: HostRuntime) -> Result<(), Fail> {
     let heap = rt.alloc();
-    let most = Penalty {
+    let dear = Err(Refusal::PenaltyRange);
+    let most = Kind::Wish(Penalty {
         breaches: 9,
         points: 1_000_000,
-    };
-    let breaches = Penalty {
+    });
+    let breaches = Kind::Wish(Penalty {
         breaches: 10,
         points: 0,
-    };
-    let points = Penalty {
+    });
+    let points = Kind::Wish(Penalty {
         breaches: 0,
         points: 1_000_001,
-    };
+    });
+    let costliest = breaching(gap(1, 0, 0, 5, 1_000_000), 9);
+    assert_eq!(rt; offered(heap, most, &[costliest])?, Ok(()));
+    let ten = breaching(gap(1, 0, 0, 5, 0), 10);
+    assert_eq!(rt; offered(heap, Kind::Firm, &[ten])?, dear);
     assert_eq!(rt;
-        refused(heap, Kind::Wish(most), &[option(1, 0, 0, 5, 9, 1_000_000)])?,
-        0
+        offered(heap, Kind::Firm, &[gap(1, 0, 0, 5, 1_000_001)])?,
+        dear
     );
-    assert_eq!(rt; refused(heap, Kind::Firm, &[option(1, 0, 0, 5, 10, 0)])?, 8);
-    assert_eq!(rt;
-        refused(heap, Kind::Firm, &[option(1, 0, 0, 5, 0, 1_000_001)])?,
-        8
-    );
-    assert_eq!(rt;
-        refused(heap, Kind::Wish(breaches), &[option(1, 1, 0, 5, 0, 0)])?,
-        8
-    );
-    assert_eq!(rt;
-        refused(heap, Kind::Wish(points), &[option(1, 1, 0, 5, 0, 0)])?,
-        8
-    );
+    assert_eq!(rt; offered(heap, breaches, &[gap(1, 1, 0, 5, 0)])?, dear);
+    assert_eq!(rt; offered(heap, points, &[gap(1, 1, 0, 5, 0)])?, dear);
     Ok(())
 }
 
 #[test]
 fn a_rule_has_1_to_8_options_checked_one_by_one(rt: HostRuntime) -> Result<(), Fail> {
     let heap = rt.alloc();
-    let good = option(1, 0, 0, 5, 0, 0);
-    let late = option(1, 0, 6, 5, 0, 0);
-    let lost = option(3, 0, 0, 5, 0, 0);
-    let dear = Penalty {
+    let good = gap(1, 0, 0, 5, 0);
+    let late = gap(1, 0, 6, 5, 0);
+    let lost = gap(3, 0, 0, 5, 0);
+    let dear = Kind::Wish(Penalty {
         breaches: 10,
         points: 0,
-    };
-    assert_eq!(rt; refused(heap, Kind::Wish(dear), &[])?, 5);
-    assert_eq!(rt; refused(heap, Kind::Firm, &[good; 8])?, 0);
-    assert_eq!(rt; refused(heap, Kind::Firm, &[good; 9])?, 5);
-    assert_eq!(rt; refused(heap, Kind::Firm, &[lost; 9])?, 5);
-    assert_eq!(rt; refused(heap, Kind::Firm, &[good, late, lost])?, 7);
-    assert_eq!(rt; refused(heap, Kind::Firm, &[good, lost, late])?, 6);
+    });
+    let many = Err(Refusal::DisjunctCount);
+    assert_eq!(rt; offered(heap, dear, &[])?, many);
+    assert_eq!(rt; offered(heap, Kind::Firm, &[good; 8])?, Ok(()));
+    assert_eq!(rt; offered(heap, Kind::Firm, &[good; 9])?, many);
+    assert_eq!(rt; offered(heap, Kind::Firm, &[lost; 9])?, many);
+    assert_eq!(rt;
+        offered(heap, Kind::Firm, &[good, late, lost])?,
+        Err(Refusal::BoundRange)
+    );
+    assert_eq!(rt;
+        offered(heap, Kind::Firm, &[good, lost, late])?,
+        Err(Refusal::EventPair)
+    );
     Ok(())
 }
 
 #[test]
 fn a_problem_takes_32_rules_and_then_no_other_day(rt: HostRuntime) -> Result<(), Fail> {
     let heap = rt.alloc();
-    let good = option(1, 0, 0, 5, 0, 0);
+    let good = gap(1, 0, 0, 5, 0);
     let mut problem = Problem::new(heap)?;
-    assert_eq!(rt; adopted(heap, &mut problem, Kind::Firm, &[good])?, 6);
-    assert!(rt; problem.set(3, 60).is_ok());
+    let full = Err(Refusal::RuleCount);
+    assert_eq!(rt;
+        adopt(heap, &mut problem, Kind::Firm, &[good])?,
+        Err(Refusal::EventPair)
+    );
+    assert_eq!(rt; problem.set(3, 60), Ok(()));
     for _ in 0..32 {
-        assert_eq!(rt; adopted(heap, &mut problem, Kind::Firm, &[good])?, 0);
+        assert_eq!(rt; adopt(heap, &mut problem, Kind::Firm, &[good])?, Ok(()));
     }
-    assert_eq!(rt; adopted(heap, &mut problem, Kind::Firm, &[good])?, 4);
-    assert_eq!(rt; adopted(heap, &mut problem, Kind::Firm, &[])?, 4);
+    assert_eq!(rt; adopt(heap, &mut problem, Kind::Firm, &[good])?, full);
+    assert_eq!(rt; adopt(heap, &mut problem, Kind::Firm, &[])?, full);
     assert_eq!(rt; problem.rules().len(), 32);
-    assert!(rt; problem.set(3, 60).is_err());
+    assert_eq!(rt; problem.set(3, 60), Err(Refusal::RulesStand));
     assert_eq!(rt; problem.day().horizon(), 60);
     Ok(())
 }

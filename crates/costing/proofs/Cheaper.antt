@@ -1,12 +1,12 @@
--- The least cost among the choices that a timetable meets, by a fold over their costs.
-use Rattle.std.proofs.Common.{◌≡◌, ℕ, Bool, true, false, cond, List, [], ◌∷◌, ◌++◌, map, Some, None, Option, sym, refl, ◌∙◌, subst, inl, inr, arith}
-use Rattle.std.proofs.ByRecursion.{All-push}
+-- The least choice_cost among choices, one choice after another.
+use Rattle.std.proofs.Common.{◌≡◌, ℕ, Bool, true, false, cond, List, [], ◌∷◌, ◌++◌, map, Some, None, Option, sym, refl, subst, subst₂, inl, inr, arith}
+use Rattle.std.proofs.ByRecursion.{All-push, All-weaker}
+use Rattle.std.proofs.lemmas.List.{append_assoc, append-nil}
 use Rattle.std.proofs.lemmas.Bool.{false≢true}
-use Rattle.std.proofs.lemmas.Int.{ints}
 use Rattle.std.proofs.lemmas.Bool.Decides.{Decides-and}
+use Rattle.std.proofs.lemmas.Int.{ints}
 use Rattle.std.specs.Bool.{Decides}
 use Rattle.std.specs.List.{AllByRecursion, filter}
-use Rattle.std.proofs.lemmas.List.{append-nil}
 use Rattle.std.specs.Prelude.{ℤ, ◌≤ℤ◌, int_le}
 use Rattle.counting.specs.Ways.{Way, AtMost, Laws}
 use Rattle.counting.specs.declared.penalty.Penalty.{Penalty}
@@ -14,9 +14,8 @@ use Rattle.problem.specs.Costs.{choice_cost, Least}
 use Rattle.problem.specs.Rules.{Rule}
 use Rattle.problem.specs.Timetables.{Choice, option, give_up, giving_up, choices, gap, Meets, Chosen, Any}
 use Rattle.problem.specs.declared.constraint.Disjunct.{Disjunct}
-use Rattle.problem.specs.declared.constraint.Kind.{Kind}
 use Rattle.problem.specs.declared.constraint.Kind.TheVariants.{Firm, Wish}
-use Rattle.costing.specs.Cheapest.{in_bounds, given_up_cost, lesser, met_costs, least_cost, Cheapest}
+use Rattle.costing.specs.Cheapest.{in_bounds, lesser, met_costs, least_cost, Unmet, Cheapest}
 
 module _ {X : Type 0} (P : X → Type 0) where
   pub some_first : (xs ys : List X) → Any P xs → Any P (xs ++ ys)
@@ -45,106 +44,78 @@ in_order a b = (λ h. grind (arith, ints), λ m. grind (arith, ints))
 in_bounds_meets : (T : ℕ → ℕ) (d : Disjunct) → Decides (in_bounds T d) (Meets T d)
 in_bounds_meets T d = Decides-and _ _ (in_order d.lo (gap T d.x d.y)) (in_order (gap T d.x d.y) d.hi)
 
-module _ {C : Type 0} (way : Way C) (laws : Laws way) where
-  -- c is among the costs, and at most each
-  record LeastOf (xs : List C) (c : C) : Type 0 where
-    among : Any (λ x. x ≡ c) xs
-    lowest : AllByRecursion (AtMost way c) xs
+module _ {C : Type 0} (way : Way C) (laws : Laws way) (T : ℕ → ℕ) (chs : List Choice) (ch : Choice) where
+  abbrev AtPrice : C → Choice → Type 0
+  AtPrice c x = Chosen T x × (choice_cost way x ≡ c)
+
+  abbrev Above : C → Choice → Type 0
+  Above c x = Chosen T x → AtMost way c (choice_cost way x)
 
   at_most_itself : (c : C) → AtMost way c c
   at_most_itself c = elim (laws.total c c) [ inl h ↦ h | inr h ↦ h ]
 
-  -- the lesser of two is one of them, and at most each
-  lesser_least : (b c : C) (t : Bool) → way.atmost b c ≡ t → LeastOf (b ∷ (c ∷ [])) (cond t b c)
-  lesser_least b c true e = record { among = inl refl; lowest = (at_most_itself b, (e, tt)) }
-  lesser_least b c false e =
-      let above : AtMost way c b = elim (laws.total b c) [ inl h ↦ (let z : ◌≡◌ {A = Bool} false true = cc in absurd (false≢true z)) | inr h ↦ h ] in
-      record { among = inr (inl refl); lowest = (above, (at_most_itself c, tt)) }
+  -- the first choice that is met
+  least_first : Unmet T chs → Chosen T ch → Least way T (chs ++ ch ∷ []) (choice_cost way ch)
+  least_first u m = record {
+    reached = some_last (AtPrice (choice_cost way ch)) chs ch (m, refl);
+    lowest = All-push (Above (choice_cost way ch)) chs ch (All-weaker (λ x. Chosen T x → ⊥) (Above (choice_cost way ch)) (λ x n k. absurd (n k)) chs u) (λ _. at_most_itself (choice_cost way ch));
+  }
 
-  -- what is the lesser of two costs is one of them
-  among_two : (b x y c : C) (xs : List C) → Any (λ z. z ≡ y) (b ∷ (x ∷ [])) → Any (λ z. z ≡ c) (y ∷ xs) → Any (λ z. z ≡ c) (b ∷ (x ∷ xs))
-  among_two b x y c xs (inl e) (inl f) = inl (e ∙ f)
-  among_two b x y c xs (inr (inl e)) (inl f) = inr (inl (e ∙ f))
-  among_two b x y c xs (inr (inr h)) (inl f) = absurd h
-  among_two b x y c xs h (inr k) = inr (inr k)
+  -- a choice that is not met, or costs as much or more
+  least_stays : (c : C) → Least way T chs c → Above c ch → Least way T (chs ++ ch ∷ []) c
+  least_stays c l h = record {
+    reached = some_first (AtPrice c) chs (ch ∷ []) l.reached;
+    lowest = All-push (Above c) chs ch l.lowest h;
+  }
 
-  -- the lesser of two costs stands for both
-  least_of_two : (b x c : C) (xs : List C) → LeastOf (lesser way (Some b) x ∷ xs) c → LeastOf (b ∷ (x ∷ xs)) c
-  least_of_two b x c xs h =
-      let y = lesser way (Some b) x in
-      let l = lesser_least b x (way.atmost b x) refl in
-      record {
-        among = among_two b x y c xs l.among h.among;
-        lowest = (laws.trans c y b h.lowest.0 l.lowest.0, (laws.trans c y x h.lowest.0 l.lowest.1.0, h.lowest.1));
-      }
+  -- a choice that is met and costs less
+  least_falls : (c : C) → Least way T chs c → Chosen T ch → AtMost way (choice_cost way ch) c → Least way T (chs ++ ch ∷ []) (choice_cost way ch)
+  least_falls c l m h = record {
+    reached = some_last (AtPrice (choice_cost way ch)) chs ch (m, refl);
+    lowest = All-push (Above (choice_cost way ch)) chs ch (All-weaker (Above c) (Above (choice_cost way ch)) (λ x k n. laws.trans (choice_cost way ch) c (choice_cost way x) h (k n)) chs l.lowest) (λ _. at_most_itself (choice_cost way ch));
+  }
 
-  kept_least : (b c : C) (xs : List C) → least_cost way (Some b) xs ≡ Some c → LeastOf (b ∷ xs) c
-  kept_least b c [] e = let same : b ≡ c = cc in record { among = inl same; lowest = (subst (λ x. AtMost way c x) (sym same) (at_most_itself c), tt) }
-  kept_least b c (x ∷ xs) e = least_of_two b x c xs (kept_least (lesser way (Some b) x) c xs e)
+  lesser_of : (c : C) (b : Bool) → way.atmost c (choice_cost way ch) ≡ b → Least way T chs c → Chosen T ch
+      → Least way T (chs ++ ch ∷ []) (cond b c (choice_cost way ch))
+  lesser_of c true e l m = least_stays c l (λ _. e)
+  lesser_of c false e l m =
+      least_falls c l m (elim (laws.total c (choice_cost way ch)) [ inl h ↦ (let z : ◌≡◌ {A = Bool} false true = cc in absurd (false≢true z)) | inr h ↦ h ])
 
-  kept_some : (b : C) (xs : List C) → least_cost way (Some b) xs ≡ None → ⊥
-  kept_some b [] e = let z : ⊥ = cc in z
-  kept_some b (x ∷ xs) e = kept_some (lesser way (Some b) x) xs e
+  -- one more choice, which is met
+  pub cheapest_met : (o : Option C) → Cheapest way T chs o → Chosen T ch → Cheapest way T (chs ++ ch ∷ []) (Some (lesser way o (choice_cost way ch)))
+  cheapest_met None u m = least_first u m
+  cheapest_met (Some c) l m = lesser_of c (way.atmost c (choice_cost way ch)) refl l m
 
-module _ {C : Type 0} (way : Way C) (T : ℕ → ℕ) where
-  module _ (P : C → Type 0) where
-    -- a choice that T meets, at such a cost
-    abbrev MetAt : Choice → Type 0
-    MetAt ch = Chosen T ch × P (choice_cost way ch)
+  -- one more choice, which is not
+  pub cheapest_unmet : (o : Option C) → Cheapest way T chs o → (Chosen T ch → ⊥) → Cheapest way T (chs ++ ch ∷ []) o
+  cheapest_unmet None u n = All-push (λ x. Chosen T x → ⊥) chs ch u n
+  cheapest_unmet (Some c) l n = least_stays c l (λ m. absurd (n m))
 
-    -- a choice that costs so if T meets it
-    abbrev IfMet : Choice → Type 0
-    IfMet ch = Chosen T ch → P (choice_cost way ch)
+module _ {C : Type 0} (way : Way C) (laws : Laws way) (T : ℕ → ℕ) where
+  -- one option more, by whether it is met, and then the rest
+  cheapest_step : (chs more : List Choice) (d : Disjunct) (fs : List Disjunct) (o : Option C) (t : Bool) → Decides t (Meets T d) → Cheapest way T chs o
+      → ((n : Option C) → Cheapest way T (chs ++ option d ∷ []) n → Cheapest way T more (least_cost way n (map (λ x. way.reading x.penalty) fs)))
+      → Cheapest way T more (least_cost way o (map (λ x. way.reading x.penalty) (cond t (d ∷ fs) fs)))
+  cheapest_step chs more d fs o true m h rest = rest (Some (lesser way o (way.reading d.penalty))) (cheapest_met way laws T chs (option d) o h (m.0 refl))
+  cheapest_step chs more d fs o false m h rest = rest o (cheapest_unmet way laws T chs (option d) o h (λ k. false≢true (m.1 k)))
 
-    any_more : (t : Bool) (d : Disjunct) (ds fs : List Disjunct) → (t ≡ true → Meets T d)
-        → (Any P (map (λ x. way.reading x.penalty) fs) → Any MetAt (map option ds))
-        → Any P (map (λ x. way.reading x.penalty) (cond t (d ∷ fs) fs)) → Any MetAt (option d ∷ map option ds)
-    any_more true d ds fs m f (inl h) = inl (m refl, h)
-    any_more true d ds fs m f (inr h) = inr (f h)
-    any_more false d ds fs m f h = inr (f h)
+  -- some options, after choices of which o is the cheapest
+  cheapest_more : (chs : List Choice) (ds : List Disjunct) (o : Option C) → Cheapest way T chs o → Cheapest way T (chs ++ map option ds) (least_cost way o (met_costs way T ds))
+  cheapest_more chs [] o h = subst (λ xs. Cheapest way T xs o) (sym (append-nil chs)) h
+  cheapest_more chs (d ∷ ds) o h =
+      cheapest_step chs (chs ++ option d ∷ map option ds) d (filter (in_bounds T) ds) o (in_bounds T d) (in_bounds_meets T d) h
+      (λ n k. subst (λ xs. Cheapest way T xs (least_cost way n (met_costs way T ds))) (append_assoc chs (option d ∷ []) (map option ds)) (cheapest_more (chs ++ option d ∷ []) ds n k))
 
-    any_met : (ds : List Disjunct) → Any P (met_costs way T ds) → Any MetAt (map option ds)
-    any_met [] h = absurd h
-    any_met (d ∷ ds) h = any_more (in_bounds T d) d ds (filter (in_bounds T) ds) (in_bounds_meets T d).0 (any_met ds) h
+  module _ (r : Rule) (o : Option C) (least : o ≡ least_cost way None (met_costs way T r.options)) where
+    options_cheapest : Cheapest way T (map option r.options) o
+    options_cheapest = subst (Cheapest way T (map option r.options)) (sym least) (cheapest_more [] r.options None tt)
 
-    all_more : (t : Bool) (d : Disjunct) (ds fs : List Disjunct) → (Meets T d → t ≡ true)
-        → (AllByRecursion P (map (λ x. way.reading x.penalty) fs) → AllByRecursion IfMet (map option ds))
-        → AllByRecursion P (map (λ x. way.reading x.penalty) (cond t (d ∷ fs) fs)) → AllByRecursion IfMet (option d ∷ map option ds)
-    all_more true d ds fs m f h = (λ _. h.0, f h.1)
-    all_more false d ds fs m f h = (λ k. absurd (false≢true (m k)), f h)
+    -- the choices of a firm rule are its options
+    pub cheapest_firm : r.kind ≡ Firm → Cheapest way T (choices r) o
+    cheapest_firm k =
+        subst (λ kind. Cheapest way T (map option r.options ++ giving_up kind) o) (sym k)
+        (subst (λ xs. Cheapest way T xs o) (sym (append-nil (map option r.options))) options_cheapest)
 
-    all_met : (ds : List Disjunct) → AllByRecursion P (met_costs way T ds) → AllByRecursion IfMet (map option ds)
-    all_met [] h = tt
-    all_met (d ∷ ds) h = all_more (in_bounds T d) d ds (filter (in_bounds T) ds) (in_bounds_meets T d).1 (all_met ds) h
-
-  module _ (laws : Laws way) (ds : List Disjunct) where
-    -- of a firm rule
-    cheapest_firm : (xs : List C) (o : Option C) → xs ≡ met_costs way T ds → least_cost way None xs ≡ o → Cheapest way T (map option ds) o
-    cheapest_firm [] None e f = all_met (λ _. ⊥) ds (subst (AllByRecursion (λ _. ⊥)) e tt)
-    cheapest_firm [] (Some c) e f = let z : ⊥ = cc in absurd z
-    cheapest_firm (x ∷ xs) None e f = absurd (kept_some way laws x xs f)
-    cheapest_firm (x ∷ xs) (Some c) e f =
-        let l = kept_least way laws x c xs f in
-        record {
-          reached = any_met (λ y. y ≡ c) ds (subst (Any (λ y. y ≡ c)) e l.among);
-          lowest = all_met (AtMost way c) ds (subst (AllByRecursion (AtMost way c)) e l.lowest);
-        }
-
-    -- of a wish, which costs c at the least
-    cheapest_wish : (p : Penalty) (c : C) → LeastOf way laws (way.reading p ∷ met_costs way T ds) c → Least way T (map option ds ++ give_up p ∷ []) c
-    cheapest_wish p c l = record {
-      reached = elim l.among [
-        | inl e ↦ some_last (MetAt (λ y. y ≡ c)) (map option ds) (give_up p) (tt, e)
-        | inr h ↦ some_first (MetAt (λ y. y ≡ c)) (map option ds) (give_up p ∷ []) (any_met (λ y. y ≡ c) ds h)
-      ];
-      lowest = All-push (IfMet (AtMost way c)) (map option ds) (give_up p) (all_met (AtMost way c) ds l.lowest.1) (λ _. l.lowest.0);
-    }
-
-    cheapest_kind : (k : Kind) (o : Option C) → least_cost way (given_up_cost way k) (met_costs way T ds) ≡ o → Cheapest way T (map option ds ++ giving_up k) o
-    cheapest_kind Firm o e = subst (λ chs. Cheapest way T chs o) (sym (append-nil (map option ds))) (cheapest_firm (met_costs way T ds) o refl e)
-    cheapest_kind (Wish p) None e = absurd (kept_some way laws (way.reading p) (met_costs way T ds) e)
-    cheapest_kind (Wish p) (Some c) e = cheapest_wish p c (kept_least way laws (way.reading p) c (met_costs way T ds) e)
-
-  -- the least of giving up and of the options that are met is the cheapest choice
-  pub cheapest_read : (laws : Laws way) (r : Rule) (o : Option C) → o ≡ least_cost way (given_up_cost way r.kind) (met_costs way T r.options) → Cheapest way T (choices r) o
-  cheapest_read laws r o e = cheapest_kind laws r.options r.kind o (sym e)
+    -- those of a wish have giving up as the last
+    pub cheapest_wish : (p : Penalty) (c : C) → r.kind ≡ Wish p → c ≡ lesser way o (way.reading p) → Least way T (choices r) c
+    cheapest_wish p c k e = subst₂ (λ kind x. Least way T (map option r.options ++ giving_up kind) x) (sym k) (sym e) (cheapest_met way laws T (map option r.options) (give_up p) o options_cheapest tt)

@@ -37,9 +37,6 @@ module _ {X Y : Type 0} (R : X → Y → Type 0) where
   pairwise_same f (x ∷ xs) (y ∷ ys) (z ∷ zs) h k = ap (λ w. w ∷ ys) (f x y z h.0 k.0) ∙ ap (λ ws. z ∷ ws) (pairwise_same f xs ys zs h.1 k.1)
 
 module _ {C : Type 0} (way : Way C) (T : ℕ → ℕ) where
-  pub costs_none : (c : C) → c ≡ way.zero → Costs way T [] c
-  costs_none c e = record { each = []; priced = tt; joined = sym e }
-
   -- one rule more
   pub costs_more : (cs : List Constraint) (i : ℕ) (r : Constraint) (c x s : C) → i < length cs → r ≡ get_or cs i r → Costs way T (map rule_of (take i cs)) c
       → Least way T (choices (rule_of r)) x → s ≡ way.join c x → Costs way T (map rule_of (take (i + 1) cs)) s

@@ -1,20 +1,17 @@
 -- What the functions below `cost_of` look for.
---   gives           the minute that a timetable gives each event
---   in_bounds       whether it meets an option
---   given_up_cost   the cost of giving up a rule of a kind, unless it is firm
---   lesser          the lesser of two costs, the first where they rank alike
---   met_costs       the costs of the options that a timetable meets
---   least_cost      the least of costs
---   Unmet           a timetable meets none of some choices
---   Cheapest        the least cost among the choices that a timetable meets, if it meets any
+--   gives        the minute that a timetable gives each event
+--   in_bounds    whether it meets an option
+--   lesser       the lesser of two costs, the first where they rank alike
+--   met_costs    the costs of the options that a timetable meets
+--   least_cost   the least of costs
+--   Unmet        a timetable meets none of some choices
+--   Cheapest     the least cost among the choices that a timetable meets, if it meets any
 use Rattle.std.specs.Prelude.{ℕ, Bool, cond, ◌&&◌, List, map, fold, Some, None, Option, int_le}
 use Rattle.std.specs.List.{AllByRecursion, filter}
 use Rattle.counting.specs.Ways.{Way}
 use Rattle.problem.specs.Costs.{Least}
 use Rattle.problem.specs.Timetables.{minute, gap, Choice, Chosen}
 use Rattle.problem.specs.declared.constraint.Disjunct.{Disjunct}
-use Rattle.problem.specs.declared.constraint.Kind.{Kind}
-use Rattle.problem.specs.declared.constraint.Kind.TheVariants.{Firm, Wish}
 use Rattle.problem.specs.declared.timetable.Timetable.{Timetable}
 
 -- the minutes in the order of the events
@@ -30,11 +27,6 @@ abbrev pub Unmet : (ℕ → ℕ) → List Choice → Type 0
 Unmet T chs = AllByRecursion (λ ch. Chosen T ch → ⊥) chs
 
 module _ {C : Type 0} (way : Way C) where
-  -- that of a wish
-  abbrev pub given_up_cost : Kind → Option C
-  given_up_cost Firm = None
-  given_up_cost (Wish p) = Some (way.reading p)
-
   -- the first, unless the second is lower
   abbrev pub lesser : Option C → C → C
   lesser None c = c

@@ -1,8 +1,8 @@
 //! The cost of one rule: the least among the choices that a timetable meets.
-ghost use Rattle.std.specs.Prelude.{◌≡◌};
+ghost use Rattle.std.specs.Prelude.{◌≡◌, None};
 ghost use Rattle.problem.specs.Rules.{rule_of};
 ghost use Rattle.problem.specs.Timetables.{choices};
-ghost use Rattle.costing.specs.Cheapest.{gives, in_bounds, given_up_cost, lesser, met_costs, least_cost, Cheapest};
+ghost use Rattle.costing.specs.Cheapest.{gives, in_bounds, lesser, met_costs, least_cost, Cheapest};
 
 use counting::Counting;
 use problem::{Constraint, Disjunct, Kind, Timetable};
@@ -15,16 +15,6 @@ fn meets(disjunct: &Disjunct, timetable: &Timetable) -> bool
     (disjunct.lo..=disjunct.hi).contains(&gap)
 }
 
-/// The cost of giving a rule of this kind up, unless it is firm.
-fn given_up<W: Counting>(kind: Kind) -> Option<W>
-    ensures { result ≡ given_up_cost W.Counting.way kind }
-{
-    match kind {
-        Kind::Firm => None,
-        Kind::Wish(penalty) => Some(W::reading(penalty)),
-    }
-}
-
 /// The lesser of two costs, the first where they rank alike.
 fn lesser_of<W: Counting>(kept: Option<W>, cost: W) -> W
     ensures { result ≡ lesser W.Counting.way kept cost }
@@ -35,24 +25,24 @@ fn lesser_of<W: Counting>(kept: Option<W>, cost: W) -> W
     }
 }
 
-/// The least of what is kept and of the costs of the disjuncts that the timetable meets, if there is any.
-fn least_met<W: Counting>(
-    kept: Option<W>,
-    disjuncts: &[Disjunct],
-    timetable: &Timetable,
-) -> Option<W>
-    ensures { result ≡ least_cost W.Counting.way kept (met_costs W.Counting.way (gives timetable.now) disjuncts.now) }
+/// The least cost among the disjuncts that the timetable meets, if it meets any.
+fn least_met<W: Counting>(disjuncts: &[Disjunct], timetable: &Timetable) -> Option<W>
+    ensures { result ≡ least_cost W.Counting.way None (met_costs W.Counting.way (gives timetable.now) disjuncts.now) }
 {
     disjuncts
         .iter()
         .filter(|disjunct| meets(disjunct, timetable))
         .map(|disjunct| W::reading(disjunct.penalty))
-        .fold(kept, |least, cost| Some(lesser_of(least, cost)))
+        .fold(None, |least, cost| Some(lesser_of(least, cost)))
 }
 
 /// The least cost among the rule's choices that the timetable meets, if it meets any.
 pub(crate) fn rule_cost<W: Counting>(rule: &Constraint, timetable: &Timetable) -> Option<W>
     ensures { Cheapest W.Counting.way (gives timetable.now) (choices (rule_of rule.now)) result }
 {
-    least_met(given_up(rule.kind), rule.disjuncts.as_slice(), timetable)
+    let least = least_met(rule.disjuncts.as_slice(), timetable);
+    match rule.kind {
+        Kind::Firm => least,
+        Kind::Wish(penalty) => Some(lesser_of(least, W::reading(penalty))),
+    }
 }
