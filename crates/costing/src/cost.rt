@@ -12,7 +12,7 @@ pub fn cost_of<W: Counting>(problem: &Problem, minutes: &[u32]) -> Result<W, Obj
     ensures { Costed W.Counting.way problem.now minutes.now result }
 {
     let timetable = Timetable::new(problem.day(), minutes)?;
-    let mut total = W::zero_cost();
+    let mut total = W::ZERO;
     for (number, rule) in problem.rules().iter().enumerate() {
         let Some(cost) = rule_cost(rule, &timetable) else {
             return Err(Objection::Forbidden { rule: number });

@@ -38,7 +38,7 @@ impl Counting for Sum {
         }
     }
 
-    ghost zero = { refl };
+    ghost zero_cost = { refl };
 
     ghost lawful = { sum_lawful };
 }

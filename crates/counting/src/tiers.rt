@@ -53,7 +53,7 @@ impl Counting for Tier {
         }
     }
 
-    ghost zero = { refl };
+    ghost zero_cost = { refl };
 
     ghost lawful = { tier_lawful };
 }

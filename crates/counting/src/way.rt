@@ -29,7 +29,7 @@ pub trait Counting: Copy {
 
     ghost ZERO: { Self };
 
-    /// The zero cost.
+    /// The zero cost. Generic code learns by the law `zero_cost` which value it is.
     const ZERO: Self;
 
     /// The cost of a penalty.
@@ -48,14 +48,7 @@ pub trait Counting: Copy {
     fn shown(self) -> Shown
         ensures { result ≡ way.shown self };
 
-    ghost zero: { ZERO ≡ way.zero };
+    ghost zero_cost: { ZERO ≡ way.zero };
 
     ghost lawful: { Laws way };
-
-    /// The zero cost.
-    final fn zero_cost() -> Self
-        ensures { result ≡ way.zero }
-    {
-        Self::ZERO
-    }
 }

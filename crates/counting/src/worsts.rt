@@ -37,7 +37,7 @@ impl Counting for Worst {
         }
     }
 
-    ghost zero = { refl };
+    ghost zero_cost = { refl };
 
     ghost lawful = { worst_lawful };
 }

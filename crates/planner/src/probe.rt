@@ -19,7 +19,7 @@ pub(crate) fn price_of<W: Counting>(rules: &[Constraint], choices: &Choices) -> 
     requires { selects (map rule_of rules.now) (selection_in (map rule_of rules.now) choices.now) ≡ true }
     ensures { result ≡ price W.Counting.way (map rule_of rules.now) (selection_in (map rule_of rules.now) choices.now) }
 {
-    let mut total = W::zero_cost();
+    let mut total = W::ZERO;
     for (i, rule) in rules.iter().enumerate() {
         total = total.join(W::reading(penalty_of(rule, choices[i] as usize)));
     }
@@ -52,7 +52,7 @@ pub(crate) fn probe<W: Counting, N: Network>(
     ensures probed { Probed W.Counting.way (N.Network.net network.old).day (map rule_of rules.now) best position.now (length rules.now) result.1 }
     ensures whole { result.1 ≡ None → result.0 ≡ length rules.now }
 {
-    let mut price = W::zero_cost();
+    let mut price = W::ZERO;
     if beaten(best, price) {
         return (depth, Some(0));
     }

@@ -68,7 +68,7 @@ impl<W: Counting, N: Network> Search<W, N> {
             },
             None => Outcome {
                 word: word(self.progress.ended, false),
-                cost: W::zero_cost(),
+                cost: W::ZERO,
                 given: 0,
             },
         }

@@ -6,7 +6,7 @@ use Rattle.planner.proofs.Reading.{count, fits, choice_within}
 use Rattle.planner.proofs.probe.price_of.Goals as goal
 
 pub loop-i-init : goal.loop-i-init
-loop-i-init g c = price_none g.W.Counting.way (map rule_of c.args.rules.now) _ c.zero_cost-total.ensures
+loop-i-init g c = price_none g.W.Counting.way (map rule_of c.args.rules.now) _ (c.ZERO-total.ensures ∙ g.met.W.Counting.zero_cost)
 
 pub bounds-choices-i : goal.bounds-choices-i
 bounds-choices-i g c = let few = fits c.args.rules.now c.args.choices.now c.requires in omega arith

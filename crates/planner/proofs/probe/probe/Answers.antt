@@ -1,4 +1,4 @@
-use Rattle.std.proofs.Common.{◌+◌, max, [], map, take, Some, sym, refl, ap, subst, inl, arith}
+use Rattle.std.proofs.Common.{◌∙◌, ◌+◌, max, [], map, take, Some, sym, refl, ap, subst, inl, arith}
 use Rattle.std.proofs.lemmas.Bool.Decides.{not_from_Decides}
 use Rattle.problem.specs.Rules.{rule_of}
 use Rattle.network.specs.Nets.{Net}
@@ -17,7 +17,7 @@ returns-then-beaten g c =
     let rs = map rule_of c.args.rules.now in
     record {
       loaded = c.requires.loaded;
-      probed = (omega arith, dear way day rs c.args.best [] c.zero_cost-price.result (price_none way rs _ c.zero_cost-price.ensures) (c.if-beaten.ensures.0 refl), λ i l. absurd (omega arith));
+      probed = (omega arith, dear way day rs c.args.best [] c.ZERO-price.result (price_none way rs _ (c.ZERO-price.ensures ∙ g.met.W.Counting.zero_cost)) (c.if-beaten.ensures.0 refl), λ i l. absurd (omega arith));
       whole = λ e. absurd (never 0 (Some 0) e refl);
     }
 
@@ -27,11 +27,11 @@ loop-i-init g c =
     let m = g.N.Network.net c.args.network.now in
     let rs = map rule_of c.args.rules.now in
     let ns = c.args.position.now in
-    let p = price_none way rs _ c.zero_cost-price.ensures in
+    let p = price_none way rs _ (c.ZERO-price.ensures ∙ g.met.W.Counting.zero_cost) in
     let f = loaded_feasible m.day rs ns c.args.depth 0 m (omega arith) (g.met.N.Network.sound c.args.network.now).solvable c.requires.loaded in (
       loaded_at m.day rs ns c.args.depth (max 0 c.args.depth) m (omega arith) c.requires.loaded,
       p,
-      at_most_none (λ k. HopefulAt way m.day rs c.args.best (take k ns)) (hopeful way m.day rs c.args.best [] c.zero_cost-price.result p f (not_from_Decides _ c.beaten.ensures c.if-beaten.false)),
+      at_most_none (λ k. HopefulAt way m.day rs c.args.best (take k ns)) (hopeful way m.day rs c.args.best [] c.ZERO-price.result p f (not_from_Decides _ c.beaten.ensures c.if-beaten.false)),
     )
 
 pub bounds-position-i : goal.bounds-position-i

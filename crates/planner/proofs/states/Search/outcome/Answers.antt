@@ -18,4 +18,4 @@ returns-in-Some g c =
 pub returns-in-None : goal.returns-in-None
 returns-in-None g c =
     let s = c.args.self.now in
-    told_none s.problem.day (rules_of s.problem) s.progress (held s) c.in-None.is g.W.Counting.way c.word-in-None.result c.zero_cost.result c.word-in-None.ensures c.zero_cost.ensures
+    told_none s.problem.day (rules_of s.problem) s.progress (held s) c.in-None.is g.W.Counting.way c.word-in-None.result c.ZERO.result c.word-in-None.ensures (c.ZERO.ensures ∙ g.met.W.Counting.zero_cost)
