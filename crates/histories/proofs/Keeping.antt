@@ -9,8 +9,7 @@ use Rattle.problem.specs.Problems.{rules_adopt_checks}
 use Rattle.problem.proofs.Said.{passes_removed}
 use Rattle.search.specs.Searches.{State, Steps, After}
 use Rattle.search.specs.Selections.{Fit}
-use Rattle.histories.specs.Histories.{View, drafting, searching, Acts, Means, Made}
-use Rattle.histories.specs.declared.calls.Answer.{Answer}
+use Rattle.histories.specs.Histories.{Answered, View, drafting, searching, Acts, Means, Made}
 use Rattle.histories.specs.declared.calls.Call.{Call}
 use Rattle.std.proofs.lemmas.Bool.{and_parts}
 
@@ -24,7 +23,7 @@ module _ {C : Type 0} (way : Way C) where
   after_steps day rules k zero s t a e = (k, subst (After way day rules k) e a)
   after_steps day rules k (suc n) s t a (u, steps, step) = let b = after_steps day rules k n s u a steps in (suc b.0, (u, b.1, step))
 
-  acts_kept : (c : Call) (v w : View) (a : Answer C) → Acts way c v w a → Kept v → Kept w
+  acts_kept : (c : Call) (v w : View) (a : Answered C) → Acts way c v w a → Kept v → Kept w
   acts_kept c v w a (Acts.sets day new rules n h p e f) k = refl
   acts_kept c v w a (Acts.sets_not day rules n h e p) k = k
   acts_kept c v w a (Acts.adopts day rules r p) k =
@@ -40,10 +39,10 @@ module _ {C : Type 0} (way : Way C) where
   acts_kept c v w a (Acts.reads_not day rules s i e p) k = k
   acts_kept c v w a (Acts.reopens day rules s) k = k.0
 
-  means_kept : (c : Call) (v w : View) (a : Answer C) → Means way c v w a → Kept v → Kept w
+  means_kept : (c : Call) (v w : View) (a : Answered C) → Means way c v w a → Kept v → Kept w
   means_kept c v w a (Means.acts d x y b h) k = acts_kept d x y b h k
   means_kept c v w a (Means.misplaced d x h) k = k
 
-  pub made_kept : (cs : List Call) (v : View) (answers : List (Answer C)) → Made way cs v answers → Kept v
+  pub made_kept : (cs : List Call) (v : View) (answers : List (Answered C)) → Made way cs v answers → Kept v
   made_kept cs v answers (Made.nothing day e h) = refl
   made_kept cs v answers (Made.more ds u w ys c a m h) = means_kept c u w a h (made_kept ds u ys m)

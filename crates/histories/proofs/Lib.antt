@@ -1,3 +1,3 @@
-mod Acting
+mod Belonging
 mod Keeping
 mod Trusting

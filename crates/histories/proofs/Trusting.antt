@@ -1,6 +1,5 @@
 -- A search that calls led to can be trusted.
-use Rattle.std.proofs.Common.{◌≡◌, ℕ, ◌⊎◌, ◌↔◌, List, Some, None, Option, sym, refl, ap, ◌∙◌, subst, inl, inr, arith}
-use Rattle.std.proofs.lemmas.Bool.{both_ways}
+use Rattle.std.proofs.Common.{◌≡◌, ℕ, ◌⊎◌, ◌↔◌, List, Some, None, Option, sym, refl, ap, ◌∙◌, subst, inl, inr}
 use Rattle.counting.specs.Ways.{Way, AtMost, Laws}
 use Rattle.problem.specs.Costs.{Costs}
 use Rattle.problem.specs.Rules.{Rule}
@@ -19,18 +18,9 @@ use Rattle.histories.specs.Histories.{View, drafting, searching}
 use Rattle.histories.specs.Promises.{ReadAll, Best, Promise, Trusted, SameVerdict, Agreeing}
 use Rattle.histories.proofs.Keeping.{Kept}
 
-never_some : {X : Type 0} (x : X) (o : Option X) → o ≡ None → o ≡ Some x → ⊥
-never_some x o p q = let z : ◌≡◌ {A = ℕ} 0 1 = cc in omega arith
-
-some_same : {X : Type 0} (o : Option X) (x y : X) → o ≡ Some x → o ≡ Some y → x ≡ y
-some_same o x y a b = cc
-
-words_apart : word.Proved ≡ word.None → ⊥
-words_apart e = let z : ◌≡◌ {A = ℕ} 0 1 = cc in omega arith
-
 module _ (rules : List Rule) (s : State) (ended : Ended rules s) where
   not_running : Running rules s → ⊥
-  not_running r = both_ways _ r.2 (ended r.0 r.1)
+  not_running r = let e = ended r.0 r.1 in cc
 
   -- an ended search tells NONE without a plan, and PROVED with one
   told : (w : Word) → TellsWord rules s w → ((w ≡ word.None) × (s.kept ≡ None)) ⊎ ((w ≡ word.Proved) × Plan s)
@@ -40,21 +30,20 @@ module _ (rules : List Rule) (s : State) (ended : Ended rules s) where
   told word.Proved h = inr (refl, h.1)
 
   none_told : (w : Word) → TellsWord rules s w → (w ≡ word.None) ↔ (s.kept ≡ None)
-  none_told w h =
-      elim (told w h) [
-        | inl (e, n) ↦ (λ _. n, λ _. e)
-        | inr (e, p) ↦ (λ f. absurd (words_apart (sym e ∙ f)), λ n. absurd (never_some p.0 s.kept n p.1))
-      ]
+  none_told w h = elim (told w h) [ inl (e, n) ↦ (λ _. n, λ _. e) | inr (e, p) ↦ (λ f. cc, λ n. cc) ]
 
   plan_told : (w : Word) → TellsWord rules s w → w ≡ word.Proved → Plan s
-  plan_told w h e = elim (told w h) [ inl (f, n) ↦ absurd (words_apart (sym e ∙ f)) | inr (f, p) ↦ p ]
+  plan_told w h e = elim (told w h) [ inl (f, n) ↦ cc | inr (f, p) ↦ p ]
+
+  proved_told : (w : Word) → TellsWord rules s w → (plan : List ℕ) → s.kept ≡ Some plan → w ≡ word.Proved
+  proved_told w h plan e = elim (told w h) [ inl (f, n) ↦ cc | inr (f, p) ↦ f ]
 
 module _ {C : Type 0} (way : Way C) (laws : Laws way) (day : Day) (rules : List Rule) (fit : Fit day rules) (s : State) (k : ℕ) (after : After way day rules k s) where
   -- minutes that are read are the smallest under the plan
   read_smallest : (plan : List ℕ) → s.kept ≡ Some plan → (S : ℕ → ℕ) → ReadAll way day rules s S → AllSmallest day rules plan S
   read_smallest plan e S r i l =
       let t = r i l in
-      subst (λ p. Smallest day rules p i (S i)) (some_same s.kept t.0 plan t.1 e) t.2
+      subst (λ p. Smallest day rules p i (S i)) (cc) t.2
 
   best : (plan : List ℕ) → s.kept ≡ Some plan → (cost : C) → cost ≡ price way rules plan → Optimal way day rules plan → Best way day rules s cost
   best plan e cost c o = record {
@@ -93,9 +82,6 @@ module _ {C : Type 0} (way : Way C) (laws : Laws way) where
   same_verdict rules rules' s s' (Some p) None e e' ended ended' a w w' c c' x x' t t' = absurd a
   same_verdict rules rules' s s' (Some p) (Some p') e e' ended ended' a w w' c c' x x' t t' =
       inr (proved_told rules s ended w t.word_is p e, proved_told rules' s' ended' w' t'.word_is p' e', t.cost_is ∙ ap (kept_price way rules) e ∙ a ∙ sym (t'.cost_is ∙ ap (kept_price way rules') e'))
-    where
-      proved_told : (rs : List Rule) (u : State) → Ended rs u → (v : Word) → TellsWord rs u v → (plan : List ℕ) → u.kept ≡ Some plan → v ≡ word.Proved
-      proved_told rs u end v h plan f = elim (told rs u end v h) [ inl (g, n) ↦ absurd (never_some plan u.kept n f) | inr (g, q) ↦ g ]
 
   pub agreeing : (v v' : View) → Kept way v → Kept way v' → Agreeing way v v'
   agreeing (drafting day rules) v k k' = tt

@@ -1,5 +1,8 @@
 //! Calls on a planner as values, and their answers.
-use planner::{Draft, Outcome, Search};
+ghost use Rattle.std.specs.Prelude.{◌≡◌};
+ghost use Rattle.histories.specs.declared.calls.Rejection.TheVariants.{Refused, Returned};
+
+use planner::Outcome;
 use problem::{Constraint, Refusal, Unadopted};
 
 /// A call. The first four belong to a draft, the others to a search.
@@ -15,42 +18,45 @@ pub enum Call {
     Reopen,
 }
 
-/// What a call answers.
+/// What a granted call tells.
 #[derive(Drop)]
-pub enum Answer<W> {
-    /// It was granted, and there is nothing to tell.
+pub enum Reply<W> {
+    /// That it is done.
     Done,
-    /// It was refused.
-    Refused(Refusal),
-    /// A rule was refused, and is handed back.
-    Returned(Unadopted),
-    /// So many steps were made.
+    /// That so many steps were made.
     Stepped(u32),
     /// What `outcome` tells.
     Told(Outcome<W>),
     /// The minute that was read.
     Minute(u32),
+}
+
+/// Why a call is not granted.
+#[derive(Drop)]
+pub enum Rejection {
+    /// It was refused.
+    Refused(Refusal),
+    /// Its rule was refused, and is handed back.
+    Returned(Unadopted),
     /// It does not belong to the present state, and is handed back.
     Misplaced(Call),
 }
 
-/// A planner in either state.
-#[derive(Drop)]
-pub enum Planner<W, N> {
-    Draft(Draft<N>),
-    Search(Search<W, N>),
+/// What a call answers.
+pub type Answer<W> = Result<Reply<W>, Rejection>;
+
+impl From<Refusal> for Rejection {
+    ghost from_gives = { λ refusal rejection. rejection ≡ Refused refusal };
+
+    fn from(refusal: Refusal) -> Rejection {
+        Rejection::Refused(refusal)
+    }
 }
 
-/// A planner after a list of calls, with their answers in order.
-#[derive(Drop)]
-pub struct Replayed<W, N> {
-    pub planner: Planner<W, N>,
-    pub answers: Vec<Answer<W>>,
-}
+impl From<Unadopted> for Rejection {
+    ghost from_gives = { λ unadopted rejection. rejection ≡ Returned unadopted };
 
-/// Two planners after two lists of calls.
-#[derive(Drop)]
-pub struct Both<W, M, N> {
-    pub first: Replayed<W, M>,
-    pub second: Replayed<W, N>,
+    fn from(unadopted: Unadopted) -> Rejection {
+        Rejection::Returned(unadopted)
+    }
 }

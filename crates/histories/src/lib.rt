@@ -2,7 +2,9 @@
 #![tactic(auto)]
 
 mod calls;
+mod planners;
 mod replays;
 
-pub use calls::{Answer, Both, Call, Planner, Replayed};
-pub use replays::{apply, replay, replay_both};
+pub use calls::{Answer, Call, Rejection, Reply};
+pub use planners::Planner;
+pub use replays::{Both, History, Replayed, replay, replay_both};
