@@ -1,98 +1,85 @@
 //! The small books: how many steps their searches take, and what these tell.
-use crate::bench::{Told, adopt, clear, ends, gap, wish};
+use crate::bench::{Bench, Told, option};
 use counting::{Penalty, Sum, Tier, Worst};
 use list_network::ListNetwork;
 use network::Network;
-use planner::Draft;
-use problem::Kind;
+use problem::{Kind, Refusal};
+use search::Word;
 use square_network::SquareNetwork;
-use std::alloc::Global;
 use std::process::Abort;
 use std::test::Fail;
 
 /// PROVED, with this cost and these rules given up.
-fn proved(breaches: u32, points: u32, given: u32) -> Told {
-    Told {
-        word: b'P',
-        cost: (breaches, points),
-        given,
-    }
+fn proved(first: u32, second: u32, given: u32) -> Told {
+    Told::new(Word::Proved, first, second, given)
 }
 
 /// NONE.
 fn none() -> Told {
-    Told {
-        word: b'N',
-        cost: (0, 0),
-        given: 0,
-    }
+    Told::new(Word::None, 0, 0, 0)
 }
 
 /// Books of firm rules.
-fn firm<N: Network + Drop>(rt: &impl Abort, heap: Global, network: N) -> Result<(), Fail> {
-    let mut draft = Draft::new(heap, network)?;
-    draft = ends::<Sum, N>(rt, draft, 1, proved(0, 0, 0), &[0]);
-    clear(rt, &mut draft, 2, 60);
-    adopt(rt, &mut draft, heap, Kind::Firm, &[gap(1, 0, 5, 5, 0)])?;
-    adopt(rt, &mut draft, heap, Kind::Firm, &[gap(1, 0, 6, 6, 0)])?;
-    draft = ends::<Sum, N>(rt, draft, 1, none(), &[1_000_011, 1_000_011]);
-    clear(rt, &mut draft, 2, 60);
-    adopt(rt, &mut draft, heap, Kind::Firm, &[gap(1, 0, 60, 60, 0)])?;
-    draft = ends::<Sum, N>(rt, draft, 1, proved(0, 0, 0), &[0, 60, 1_000_012]);
-    clear(rt, &mut draft, 2, 60);
-    adopt(rt, &mut draft, heap, Kind::Firm, &[gap(1, 0, 61, 61, 0)])?;
-    draft = ends::<Sum, N>(rt, draft, 1, none(), &[]);
-    clear(rt, &mut draft, 3, 60);
-    adopt(rt, &mut draft, heap, Kind::Firm, &[gap(1, 2, 0, 0, 0)])?;
-    adopt(rt, &mut draft, heap, Kind::Firm, &[gap(2, 0, 3, 9, 0)])?;
-    draft = ends::<Sum, N>(rt, draft, 1, proved(0, 0, 0), &[0, 3, 3]);
-    clear(rt, &mut draft, 4, 60);
-    adopt(rt, &mut draft, heap, Kind::Firm, &[gap(1, 2, 1, 60, 0)])?;
-    adopt(rt, &mut draft, heap, Kind::Firm, &[gap(2, 3, 1, 60, 0)])?;
-    adopt(rt, &mut draft, heap, Kind::Firm, &[gap(3, 1, 1, 60, 0)])?;
-    let _ = ends::<Sum, N>(rt, draft, 1, none(), &[]);
+fn firm<A: Abort, N: Network + Drop>(mut bench: Bench<A, N>) -> Result<(), Fail> {
+    bench = bench.ends::<Sum>(1, proved(0, 0, 0), &[Ok(0)]);
+    bench.day(2, 60)?;
+    bench.firm(&[option(1, 0, 5, 5, 0)])?;
+    bench.firm(&[option(1, 0, 6, 6, 0)])?;
+    bench = bench.ends::<Sum>(1, none(), &[Err(Refusal::NoPlan), Err(Refusal::NoPlan)]);
+    bench.day(2, 60)?;
+    bench.firm(&[option(1, 0, 60, 60, 0)])?;
+    bench = bench.ends::<Sum>(
+        1,
+        proved(0, 0, 0),
+        &[Ok(0), Ok(60), Err(Refusal::NoSuchEvent)],
+    );
+    bench.day(2, 60)?;
+    bench.firm(&[option(1, 0, 61, 61, 0)])?;
+    bench = bench.ends::<Sum>(1, none(), &[]);
+    bench.day(3, 60)?;
+    bench.firm(&[option(1, 2, 0, 0, 0)])?;
+    bench.firm(&[option(2, 0, 3, 9, 0)])?;
+    bench = bench.ends::<Sum>(1, proved(0, 0, 0), &[Ok(0), Ok(3), Ok(3)]);
+    bench.day(4, 60)?;
+    bench.firm(&[option(1, 2, 1, 60, 0)])?;
+    bench.firm(&[option(2, 3, 1, 60, 0)])?;
+    bench.firm(&[option(3, 1, 1, 60, 0)])?;
+    bench.ends::<Sum>(1, none(), &[]);
     Ok(())
 }
 
 /// Books of wishes, under all three ways.
-fn wishes<N: Network + Drop>(rt: &impl Abort, heap: Global, network: N) -> Result<(), Fail> {
-    let mut draft = Draft::new(heap, network)?;
-    clear(rt, &mut draft, 2, 60);
-    adopt(rt, &mut draft, heap, wish(4), &[gap(1, 0, 10, 10, 0)])?;
-    adopt(rt, &mut draft, heap, wish(4), &[gap(1, 0, 10, 10, 0)])?;
-    adopt(rt, &mut draft, heap, wish(6), &[gap(1, 0, 0, 0, 0)])?;
-    draft = ends::<Sum, N>(rt, draft, 7, proved(0, 6, 4), &[0, 10]);
-    draft = ends::<Worst, N>(rt, draft, 8, proved(0, 4, 3), &[0, 0]);
-    clear(rt, &mut draft, 2, 60);
+fn wishes<A: Abort, N: Network + Drop>(mut bench: Bench<A, N>) -> Result<(), Fail> {
+    bench.day(2, 60)?;
+    bench.wish(4, &[option(1, 0, 10, 10, 0)])?;
+    bench.wish(4, &[option(1, 0, 10, 10, 0)])?;
+    bench.wish(6, &[option(1, 0, 0, 0, 0)])?;
+    bench = bench.ends::<Sum>(7, proved(0, 6, 4), &[Ok(0), Ok(10)]);
+    bench = bench.ends::<Worst>(8, proved(0, 4, 3), &[Ok(0), Ok(0)]);
+    bench.day(2, 60)?;
     let breach = Penalty {
         breaches: 1,
         points: 0,
     };
-    adopt(
-        rt,
-        &mut draft,
-        heap,
-        Kind::Wish(breach),
-        &[gap(1, 0, 0, 0, 0)],
-    )?;
-    adopt(rt, &mut draft, heap, wish(500), &[gap(1, 0, 10, 10, 0)])?;
-    draft = ends::<Tier, N>(rt, draft, 3, proved(0, 500, 2), &[0, 0]);
-    draft = ends::<Sum, N>(rt, draft, 4, proved(0, 0, 1), &[0, 10]);
-    clear(rt, &mut draft, 2, 60);
-    adopt(rt, &mut draft, heap, wish(4), &[gap(1, 0, 0, 0, 0)])?;
-    adopt(rt, &mut draft, heap, wish(4), &[gap(1, 0, 0, 0, 0)])?;
-    let _ = ends::<Sum, N>(rt, draft, 2, proved(0, 0, 0), &[0, 0]);
+    bench.adopt(Kind::Wish(breach), &[option(1, 0, 0, 0, 0)])??;
+    bench.wish(500, &[option(1, 0, 10, 10, 0)])?;
+    bench = bench.ends::<Tier>(3, proved(0, 500, 2), &[Ok(0), Ok(0)]);
+    bench = bench.ends::<Sum>(4, proved(0, 0, 1), &[Ok(0), Ok(10)]);
+    bench.day(2, 60)?;
+    bench.wish(4, &[option(1, 0, 0, 0, 0)])?;
+    bench.wish(4, &[option(1, 0, 0, 0, 0)])?;
+    bench.ends::<Sum>(2, proved(0, 0, 0), &[Ok(0), Ok(0)]);
     Ok(())
 }
 
 #[test]
 fn books_of_firm_rules_end_as_worked_out(rt: HostRuntime) -> Result<(), Fail> {
-    firm(&rt, rt.alloc(), ListNetwork::new())?;
-    firm(&rt, rt.alloc(), SquareNetwork::new(rt.alloc())?)
+    firm(Bench::new(&rt, rt.alloc(), ListNetwork::new())?)?;
+    firm(Bench::new(&rt, rt.alloc(), SquareNetwork::new(rt.alloc())?)?)
 }
 
 #[test]
 fn books_of_wishes_end_as_worked_out(rt: HostRuntime) -> Result<(), Fail> {
-    wishes(&rt, rt.alloc(), ListNetwork::new())?;
-    wishes(&rt, rt.alloc(), SquareNetwork::new(rt.alloc())?)
+    wishes(Bench::new(&rt, rt.alloc(), ListNetwork::new())?)?;
+    wishes(Bench::new(&rt, rt.alloc(), SquareNetwork::new(rt.alloc())?)?)
 }

@@ -1,131 +1,139 @@
 //! Presses: one step at a time and many at once, refusals, and what is told on the way.
-use crate::bench::{Told, adopt, adopted, clear, gap, minute, number, pressed, report, wish};
+use crate::bench::{Bench, Told, option, wish};
 use counting::Sum;
 use list_network::ListNetwork;
 use network::Network;
-use planner::{Draft, Search};
-use problem::Kind;
+use planner::Search;
+use problem::{Kind, Refusal};
+use search::Word;
 use square_network::SquareNetwork;
-use std::alloc::Global;
 use std::process::Abort;
 use std::test::Fail;
 
 /// The example: two rounds of one hour, kept apart, with a wish for each.
-fn example<N: Network + Drop>(rt: &impl Abort, heap: Global, network: N) -> Result<Draft<N>, Fail> {
-    let mut draft = Draft::new(heap, network)?;
-    clear(rt, &mut draft, 3, 60);
-    adopt(
-        rt,
-        &mut draft,
-        heap,
-        Kind::Firm,
-        &[gap(1, 2, 15, 60, 0), gap(2, 1, 15, 60, 0)],
-    )?;
-    adopt(rt, &mut draft, heap, wish(40), &[gap(2, 0, 0, 10, 0)])?;
-    adopt(
-        rt,
-        &mut draft,
-        heap,
-        wish(30),
-        &[gap(1, 0, 0, 5, 0), gap(1, 0, 6, 20, 10)],
-    )?;
-    Ok(draft)
+fn write_example<A: Abort, N: Network + Drop>(bench: &mut Bench<A, N>) -> Result<(), Fail> {
+    bench.day(3, 60)?;
+    bench.firm(&[option(1, 2, 15, 60, 0), option(2, 1, 15, 60, 0)])?;
+    bench.wish(40, &[option(2, 0, 0, 10, 0)])?;
+    bench.wish(30, &[option(1, 0, 0, 5, 0), option(1, 0, 6, 20, 10)])
 }
 
-/// A word and a cost, with nothing given up.
-fn word(word: u8, points: u32) -> Told {
-    Told {
-        word,
-        cost: (0, points),
-        given: 0,
-    }
+/// A word and a cost in points, with nothing given up.
+fn word(word: Word, points: u32) -> Told {
+    Told::new(word, 0, points, 0)
 }
 
 /// The six steps of the example, one at a time.
-fn step_by_step<N: Network + Drop>(rt: &impl Abort, heap: Global, network: N) -> Result<(), Fail> {
-    let mut search: Search<Sum, N> = example(rt, heap, network)?.close();
-    assert_eq!(rt; report(&search), word(b'O', 0));
-    assert_eq!(rt; minute(&search, 0), 1_000_011);
-    assert_eq!(rt; pressed(&mut search, 1), 1);
-    assert_eq!(rt; report(&search), word(b'O', 0));
+fn step_by_step<A: Abort, N: Network + Drop>(mut bench: Bench<A, N>) -> Result<(), Fail> {
+    write_example(&mut bench)?;
+    let Bench { rt, draft, .. } = bench;
+    let mut search: Search<Sum, N> = draft.close();
+    assert_eq!(rt; Told::by(&search), word(Word::Open, 0));
+    assert_eq!(rt; search.read(0), Err(Refusal::NoPlan));
+    assert_eq!(rt; search.press(1), Ok(1));
+    assert_eq!(rt; Told::by(&search), word(Word::Open, 0));
     for _ in 0..4 {
-        assert_eq!(rt; pressed(&mut search, 1), 1);
-        assert_eq!(rt; report(&search), word(b'S', 10));
-        assert_eq!(rt; minute(&search, 1), 15);
+        assert_eq!(rt; search.press(1), Ok(1));
+        assert_eq!(rt; Told::by(&search), word(Word::Short, 10));
+        assert_eq!(rt; search.read(1), Ok(15));
     }
-    assert_eq!(rt; pressed(&mut search, 1), 1);
-    assert_eq!(rt; report(&search), word(b'P', 10));
-    assert_eq!(rt; pressed(&mut search, 1), 0);
-    assert_eq!(rt; minute(&search, 0), 0);
-    assert_eq!(rt; minute(&search, 2), 0);
-    assert_eq!(rt; minute(&search, 3), 1_000_012);
+    assert_eq!(rt; search.press(1), Ok(1));
+    assert_eq!(rt; Told::by(&search), word(Word::Proved, 10));
+    assert_eq!(rt; search.press(1), Ok(0));
+    assert_eq!(rt; search.read(0), Ok(0));
+    assert_eq!(rt; search.read(2), Ok(0));
+    assert_eq!(rt; search.read(3), Err(Refusal::NoSuchEvent));
+    Ok(())
+}
+
+/// A wish whose dearer option is stated first: the first plan is not the best.
+fn dearer_first<A: Abort, N: Network + Drop>(mut bench: Bench<A, N>) -> Result<(), Fail> {
+    bench.day(2, 60)?;
+    bench.wish(9, &[option(1, 0, 0, 10, 5), option(1, 0, 0, 0, 0)])?;
+    let Bench { rt, draft, .. } = bench;
+    let mut search: Search<Sum, N> = draft.close();
+    assert_eq!(rt; search.press(1), Ok(1));
+    assert_eq!(rt; Told::by(&search), word(Word::Short, 5));
+    assert_eq!(rt; search.read(0), Ok(0));
+    assert_eq!(rt; search.read(1), Ok(0));
+    assert_eq!(rt; search.press(100_000), Ok(2));
+    assert_eq!(rt; Told::by(&search), word(Word::Proved, 0));
+    assert_eq!(rt; search.read(0), Ok(0));
+    assert_eq!(rt; search.read(1), Ok(0));
     Ok(())
 }
 
 /// Any split of the same steps leads to the same answers.
-fn splits<N: Network + Drop>(rt: &impl Abort, heap: Global, network: N) -> Result<(), Fail> {
-    let mut draft = example(rt, heap, network)?;
+fn splits<A: Abort, N: Network + Drop>(mut bench: Bench<A, N>) -> Result<(), Fail> {
+    write_example(&mut bench)?;
+    let Bench { rt, mut draft, .. } = bench;
     for first in 1..8u32 {
         let mut search: Search<Sum, N> = draft.close();
-        let once = pressed(&mut search, first);
-        assert_eq!(rt; once, first.min(6));
-        let there = report(&search);
+        assert_eq!(rt; search.press(first), Ok(first.min(6)));
+        let there = Told::by(&search);
         let mut again: Search<Sum, N> = search.reopen().close();
         for _ in 0..first {
-            let _ = pressed(&mut again, 1);
+            again.press(1)?;
         }
-        assert_eq!(rt; report(&again), there);
-        assert_eq!(rt; pressed(&mut again, 100_000), 6 - once.min(6));
-        assert_eq!(rt; report(&again), word(b'P', 10));
+        assert_eq!(rt; Told::by(&again), there);
+        assert_eq!(rt; again.press(100_000), Ok(6 - first.min(6)));
+        assert_eq!(rt; Told::by(&again), word(Word::Proved, 10));
         draft = again.reopen();
     }
     Ok(())
 }
 
 /// Each refusal of a call on a draft or a search, and that the next call finds all as it was.
-fn refusals<N: Network + Drop>(rt: &impl Abort, heap: Global, network: N) -> Result<(), Fail> {
-    let mut draft = example(rt, heap, network)?;
-    assert_eq!(rt; number(draft.set(33, 60)), 1);
-    assert_eq!(rt; number(draft.set(3, 10_081)), 2);
-    assert_eq!(rt; number(draft.set(3, 60)), 3);
-    assert_eq!(rt; adopted(&mut draft, heap, Kind::Firm, &[])?, 5);
+fn refusals<A: Abort, N: Network + Drop>(mut bench: Bench<A, N>) -> Result<(), Fail> {
+    write_example(&mut bench)?;
+    let rt = bench.rt;
+    assert_eq!(rt; bench.draft.set(33, 60), Err(Refusal::EventCount));
+    assert_eq!(rt; bench.draft.set(3, 10_081), Err(Refusal::HorizonRange));
+    assert_eq!(rt; bench.draft.set(3, 60), Err(Refusal::RulesStand));
+    assert_eq!(rt; bench.adopt(Kind::Firm, &[])?, Err(Refusal::DisjunctCount));
     assert_eq!(rt;
-        adopted(&mut draft, heap, Kind::Firm, &[gap(1, 1, 0, 5, 0)])?,
-        6
+        bench.adopt(Kind::Firm, &[option(1, 1, 0, 5, 0)])?,
+        Err(Refusal::EventPair)
     );
     assert_eq!(rt;
-        adopted(&mut draft, heap, Kind::Firm, &[gap(1, 0, 6, 5, 0)])?,
-        7
+        bench.adopt(Kind::Firm, &[option(1, 0, 6, 5, 0)])?,
+        Err(Refusal::BoundRange)
     );
     assert_eq!(rt;
-        adopted(&mut draft, heap, wish(1_000_001), &[gap(1, 0, 0, 5, 0)])?,
-        8
+        bench.adopt(wish(1_000_001), &[option(1, 0, 0, 5, 0)])?,
+        Err(Refusal::PenaltyRange)
     );
-    assert_eq!(rt; number(draft.drop(3)), 9);
-    let mut search: Search<Sum, N> = draft.close();
-    assert_eq!(rt; pressed(&mut search, 0), 1_000_010);
-    assert_eq!(rt; pressed(&mut search, 100_001), 1_000_010);
-    assert_eq!(rt; minute(&search, 3), 1_000_011);
-    assert_eq!(rt; pressed(&mut search, 100_000), 6);
-    assert_eq!(rt; pressed(&mut search, 0), 1_000_010);
-    assert_eq!(rt; report(&search), word(b'P', 10));
+    assert_eq!(rt; bench.draft.drop(3), Err(Refusal::NoSuchRule));
+    let mut search: Search<Sum, N> = bench.draft.close();
+    assert_eq!(rt; search.press(0), Err(Refusal::PressRange));
+    assert_eq!(rt; search.press(100_001), Err(Refusal::PressRange));
+    assert_eq!(rt; search.read(3), Err(Refusal::NoPlan));
+    assert_eq!(rt; search.press(100_000), Ok(6));
+    assert_eq!(rt; search.press(0), Err(Refusal::PressRange));
+    assert_eq!(rt; Told::by(&search), word(Word::Proved, 10));
     Ok(())
 }
 
 #[test]
 fn the_example_goes_step_by_step(rt: HostRuntime) -> Result<(), Fail> {
-    step_by_step(&rt, rt.alloc(), ListNetwork::new())?;
-    step_by_step(&rt, rt.alloc(), SquareNetwork::new(rt.alloc())?)
+    step_by_step(Bench::new(&rt, rt.alloc(), ListNetwork::new())?)?;
+    step_by_step(Bench::new(&rt, rt.alloc(), SquareNetwork::new(rt.alloc())?)?)
+}
+
+#[test]
+fn the_first_plan_may_be_dearer(rt: HostRuntime) -> Result<(), Fail> {
+    dearer_first(Bench::new(&rt, rt.alloc(), ListNetwork::new())?)?;
+    dearer_first(Bench::new(&rt, rt.alloc(), SquareNetwork::new(rt.alloc())?)?)
 }
 
 #[test]
 fn any_split_of_the_steps_is_the_same(rt: HostRuntime) -> Result<(), Fail> {
-    splits(&rt, rt.alloc(), ListNetwork::new())?;
-    splits(&rt, rt.alloc(), SquareNetwork::new(rt.alloc())?)
+    splits(Bench::new(&rt, rt.alloc(), ListNetwork::new())?)?;
+    splits(Bench::new(&rt, rt.alloc(), SquareNetwork::new(rt.alloc())?)?)
 }
 
 #[test]
 fn refused_calls_change_nothing(rt: HostRuntime) -> Result<(), Fail> {
-    refusals(&rt, rt.alloc(), ListNetwork::new())?;
-    refusals(&rt, rt.alloc(), SquareNetwork::new(rt.alloc())?)
+    refusals(Bench::new(&rt, rt.alloc(), ListNetwork::new())?)?;
+    refusals(Bench::new(&rt, rt.alloc(), SquareNetwork::new(rt.alloc())?)?)
 }
