@@ -1,5 +1,6 @@
 //! What the cases need: a bench to write books on, and what searches tell.
-use counting::{Counting, Penalty, Shown};
+use counting::{Counting, Shown};
+use example::wish;
 use network::Network;
 use planner::{Draft, Search};
 use problem::{Constraint, Disjunct, Kind, Refusal};
@@ -7,29 +8,6 @@ use search::Word;
 use std::alloc::{AllocError, Global};
 use std::process::Abort;
 use std::test::Fail;
-
-/// Event `x` comes `lo` to `hi` minutes after event `y`, for so many points.
-pub(crate) fn option(x: usize, y: usize, lo: i32, hi: i32, points: u32) -> Disjunct {
-    let penalty = Penalty {
-        breaches: 0,
-        points,
-    };
-    Disjunct {
-        x,
-        y,
-        lo,
-        hi,
-        penalty,
-    }
-}
-
-/// A wish that costs so many points to give up.
-pub(crate) fn wish(points: u32) -> Kind {
-    Kind::Wish(Penalty {
-        breaches: 0,
-        points,
-    })
-}
 
 /// What a search tells: its word, its cost as shown, and the rules given up.
 #[derive(Clone, Copy, PartialEq, Eq, Debug)]

@@ -1,6 +1,7 @@
 //! The small books: how many steps their searches take, and what these tell.
-use crate::bench::{Bench, Told, option};
+use crate::bench::{Bench, Told};
 use counting::{Penalty, Sum, Tier, Worst};
+use example::gap;
 use list_network::ListNetwork;
 use network::Network;
 use problem::{Kind, Refusal};
@@ -23,27 +24,27 @@ fn none() -> Told {
 fn firm<A: Abort, N: Network + Drop>(mut bench: Bench<A, N>) -> Result<(), Fail> {
     bench = bench.ends::<Sum>(1, proved(0, 0, 0), &[Ok(0)]);
     bench.day(2, 60)?;
-    bench.firm(&[option(1, 0, 5, 5, 0)])?;
-    bench.firm(&[option(1, 0, 6, 6, 0)])?;
+    bench.firm(&[gap(1, 0, 5, 5, 0)])?;
+    bench.firm(&[gap(1, 0, 6, 6, 0)])?;
     bench = bench.ends::<Sum>(1, none(), &[Err(Refusal::NoPlan), Err(Refusal::NoPlan)]);
     bench.day(2, 60)?;
-    bench.firm(&[option(1, 0, 60, 60, 0)])?;
+    bench.firm(&[gap(1, 0, 60, 60, 0)])?;
     bench = bench.ends::<Sum>(
         1,
         proved(0, 0, 0),
         &[Ok(0), Ok(60), Err(Refusal::NoSuchEvent)],
     );
     bench.day(2, 60)?;
-    bench.firm(&[option(1, 0, 61, 61, 0)])?;
+    bench.firm(&[gap(1, 0, 61, 61, 0)])?;
     bench = bench.ends::<Sum>(1, none(), &[]);
     bench.day(3, 60)?;
-    bench.firm(&[option(1, 2, 0, 0, 0)])?;
-    bench.firm(&[option(2, 0, 3, 9, 0)])?;
+    bench.firm(&[gap(1, 2, 0, 0, 0)])?;
+    bench.firm(&[gap(2, 0, 3, 9, 0)])?;
     bench = bench.ends::<Sum>(1, proved(0, 0, 0), &[Ok(0), Ok(3), Ok(3)]);
     bench.day(4, 60)?;
-    bench.firm(&[option(1, 2, 1, 60, 0)])?;
-    bench.firm(&[option(2, 3, 1, 60, 0)])?;
-    bench.firm(&[option(3, 1, 1, 60, 0)])?;
+    bench.firm(&[gap(1, 2, 1, 60, 0)])?;
+    bench.firm(&[gap(2, 3, 1, 60, 0)])?;
+    bench.firm(&[gap(3, 1, 1, 60, 0)])?;
     bench.ends::<Sum>(1, none(), &[]);
     Ok(())
 }
@@ -51,9 +52,9 @@ fn firm<A: Abort, N: Network + Drop>(mut bench: Bench<A, N>) -> Result<(), Fail>
 /// Books of wishes, under all three ways.
 fn wishes<A: Abort, N: Network + Drop>(mut bench: Bench<A, N>) -> Result<(), Fail> {
     bench.day(2, 60)?;
-    bench.wish(4, &[option(1, 0, 10, 10, 0)])?;
-    bench.wish(4, &[option(1, 0, 10, 10, 0)])?;
-    bench.wish(6, &[option(1, 0, 0, 0, 0)])?;
+    bench.wish(4, &[gap(1, 0, 10, 10, 0)])?;
+    bench.wish(4, &[gap(1, 0, 10, 10, 0)])?;
+    bench.wish(6, &[gap(1, 0, 0, 0, 0)])?;
     bench = bench.ends::<Sum>(7, proved(0, 6, 4), &[Ok(0), Ok(10)]);
     bench = bench.ends::<Worst>(8, proved(0, 4, 3), &[Ok(0), Ok(0)]);
     bench.day(2, 60)?;
@@ -61,13 +62,13 @@ fn wishes<A: Abort, N: Network + Drop>(mut bench: Bench<A, N>) -> Result<(), Fai
         breaches: 1,
         points: 0,
     };
-    bench.adopt(Kind::Wish(breach), &[option(1, 0, 0, 0, 0)])??;
-    bench.wish(500, &[option(1, 0, 10, 10, 0)])?;
+    bench.adopt(Kind::Wish(breach), &[gap(1, 0, 0, 0, 0)])??;
+    bench.wish(500, &[gap(1, 0, 10, 10, 0)])?;
     bench = bench.ends::<Tier>(3, proved(0, 500, 2), &[Ok(0), Ok(0)]);
     bench = bench.ends::<Sum>(4, proved(0, 0, 1), &[Ok(0), Ok(10)]);
     bench.day(2, 60)?;
-    bench.wish(4, &[option(1, 0, 0, 0, 0)])?;
-    bench.wish(4, &[option(1, 0, 0, 0, 0)])?;
+    bench.wish(4, &[gap(1, 0, 0, 0, 0)])?;
+    bench.wish(4, &[gap(1, 0, 0, 0, 0)])?;
     bench.ends::<Sum>(2, proved(0, 0, 0), &[Ok(0), Ok(0)]);
     Ok(())
 }

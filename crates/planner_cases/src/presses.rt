@@ -1,6 +1,7 @@
 //! Presses: one step at a time and many at once, refusals, and what is told on the way.
-use crate::bench::{Bench, Told, option, wish};
+use crate::bench::{Bench, Told};
 use counting::Sum;
+use example::{gap, wish};
 use list_network::ListNetwork;
 use network::Network;
 use planner::Search;
@@ -13,9 +14,9 @@ use std::test::Fail;
 /// The example: two rounds of one hour, kept apart, with a wish for each.
 fn write_example<A: Abort, N: Network + Drop>(bench: &mut Bench<A, N>) -> Result<(), Fail> {
     bench.day(3, 60)?;
-    bench.firm(&[option(1, 2, 15, 60, 0), option(2, 1, 15, 60, 0)])?;
-    bench.wish(40, &[option(2, 0, 0, 10, 0)])?;
-    bench.wish(30, &[option(1, 0, 0, 5, 0), option(1, 0, 6, 20, 10)])
+    bench.firm(&[gap(1, 2, 15, 60, 0), gap(2, 1, 15, 60, 0)])?;
+    bench.wish(40, &[gap(2, 0, 0, 10, 0)])?;
+    bench.wish(30, &[gap(1, 0, 0, 5, 0), gap(1, 0, 6, 20, 10)])
 }
 
 /// A word and a cost in points, with nothing given up.
@@ -49,7 +50,7 @@ fn step_by_step<A: Abort, N: Network + Drop>(mut bench: Bench<A, N>) -> Result<(
 /// A wish whose dearer option is stated first: the first plan is not the best.
 fn dearer_first<A: Abort, N: Network + Drop>(mut bench: Bench<A, N>) -> Result<(), Fail> {
     bench.day(2, 60)?;
-    bench.wish(9, &[option(1, 0, 0, 10, 5), option(1, 0, 0, 0, 0)])?;
+    bench.wish(9, &[gap(1, 0, 0, 10, 5), gap(1, 0, 0, 0, 0)])?;
     let Bench { rt, draft, .. } = bench;
     let mut search: Search<Sum, N> = draft.close();
     assert_eq!(rt; search.press(1), Ok(1));
@@ -92,15 +93,15 @@ fn refusals<A: Abort, N: Network + Drop>(mut bench: Bench<A, N>) -> Result<(), F
     assert_eq!(rt; bench.draft.set(3, 60), Err(Refusal::RulesStand));
     assert_eq!(rt; bench.adopt(Kind::Firm, &[])?, Err(Refusal::DisjunctCount));
     assert_eq!(rt;
-        bench.adopt(Kind::Firm, &[option(1, 1, 0, 5, 0)])?,
+        bench.adopt(Kind::Firm, &[gap(1, 1, 0, 5, 0)])?,
         Err(Refusal::EventPair)
     );
     assert_eq!(rt;
-        bench.adopt(Kind::Firm, &[option(1, 0, 6, 5, 0)])?,
+        bench.adopt(Kind::Firm, &[gap(1, 0, 6, 5, 0)])?,
         Err(Refusal::BoundRange)
     );
     assert_eq!(rt;
-        bench.adopt(wish(1_000_001), &[option(1, 0, 0, 5, 0)])?,
+        bench.adopt(wish(1_000_001), &[gap(1, 0, 0, 5, 0)])?,
         Err(Refusal::PenaltyRange)
     );
     assert_eq!(rt; bench.draft.drop(3), Err(Refusal::NoSuchRule));
