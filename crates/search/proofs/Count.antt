@@ -1,7 +1,6 @@
 -- Each step settles one selection more, so there are no more steps than selections.
-use Rattle.std.proofs.Common.{◌≡◌, ℕ, zero, suc, ◌+◌, ◌*◌, ◌<◌, ◌≤◌, Bool, true, false, List, [], ◌∷◌, length, refl, subst, inl, inr, zero-le, le_trans, le_refl, le_of_suc-le-suc, not-suc-le-zero, add-le-add, suc-mul, eq-or-lt_of_le, arith}
-use native.Mathlib.Nat.{suc_inj}
-use Rattle.std.proofs.lemmas.Bool.{both_ways}
+use Rattle.std.proofs.Common.{◌≡◌, ℕ, zero, suc, ◌+◌, ◌*◌, ◌<◌, ◌≤◌, Bool, true, false, cond, List, [], ◌∷◌, length, refl, subst, inl, inr, zero-le, le_trans, le_refl, add-le-add, suc-mul, arith}
+use Rattle.std.proofs.lemmas.Bool.{cases_eq}
 use Rattle.counting.specs.Ways.{Way}
 use Rattle.problem.specs.Rules.{Rule}
 use Rattle.problem.specs.Timetables.{choices}
@@ -22,23 +21,19 @@ sum_mono (suc k) f g h = add-le-add (h k (le_refl (suc k))) (sum_mono k f g (λ 
 -- the last number is the one that grew, or an earlier one is
 strict_step : (k : ℕ) (f g : ℕ → ℕ) (m : ℕ) → m < suc k → f m < g m → ((n : ℕ) → n < suc k → f n ≤ g n)
     → (m < k → sum_below k f < sum_below k g) → f k + sum_below k f < g k + sum_below k g
-strict_step k f g m l i h r = elim (eq-or-lt_of_le l) [ inl e ↦ last (suc_inj e) | inr b ↦ before (le_of_suc-le-suc b) ]
-  where
-    last : m ≡ k → f k + sum_below k f < g k + sum_below k g
-    last e =
-        let j : f k < g k = subst (λ n. f n < g n) e i in
-        let t : sum_below k f ≤ sum_below k g = sum_mono k f g (λ n b. h n (omega arith)) in
-        omega arith
-
-    before : m < k → f k + sum_below k f < g k + sum_below k g
-    before b =
-        let j : f k ≤ g k = h k (le_refl (suc k)) in
-        let t : sum_below k f < sum_below k g = r b in
-        omega arith
+strict_step k f g m l i h r =
+    elim (cases_eq m k) [
+      | inl e ↦ (let j : f k < g k = subst (λ n. f n < g n) e i in
+          let t : sum_below k f ≤ sum_below k g = sum_mono k f g (λ n b. h n (omega arith)) in
+          omega arith)
+      | inr n ↦ (let j : f k ≤ g k = h k (le_refl (suc k)) in
+          let t : sum_below k f < sum_below k g = r (omega arith) in
+          omega arith)
+    ]
 
 sum_strict : (k : ℕ) (f g : ℕ → ℕ) (m : ℕ) → m < k → f m < g m → ((n : ℕ) → n < k → f n ≤ g n) → sum_below k f < sum_below k g
 unfolding sum_below
-sum_strict zero f g m l i h = absurd (not-suc-le-zero l)
+sum_strict zero f g m l i h = absurd (omega arith)
 sum_strict (suc k) f g m l i h = strict_step k f g m l i h (λ b. sum_strict k f g m b i (λ n c. h n (omega arith)))
 
 sum_bound : (k b : ℕ) (f : ℕ → ℕ) → ((n : ℕ) → f n ≤ b) → sum_below k f ≤ k * b
@@ -50,26 +45,17 @@ sum_bound (suc k) b f h =
     rw suc-mul (omega arith)
 
 -- 1 for what passes a test
-one_if : Bool → ℕ
-one_if true = 1
-one_if false = 0
+abbrev one_if : Bool → ℕ
+one_if b = cond b 1 0
 
 one_mono : (b c : Bool) → (b ≡ true → c ≡ true) → one_if b ≤ one_if c
-unfolding one_if
-one_mono true true h = le_refl 1
-one_mono true false h = absurd (both_ways false refl (h refl))
-one_mono false c h = zero-le
+one_mono b c h = grind arith
 
 one_strict : (b c : Bool) → b ≡ false → c ≡ true → one_if b < one_if c
-unfolding one_if
-one_strict true c n h = absurd (both_ways true n refl)
-one_strict false true n h = le_refl 1
-one_strict false false n h = absurd (both_ways false n h)
+one_strict b c n h = grind arith
 
 one_bound : (b : Bool) → one_if b ≤ 1
-unfolding one_if
-one_bound true = le_refl 1
-one_bound false = zero-le
+one_bound b = grind arith
 
 -- how many selections pass a test
 pub count : List Rule → (List ℕ → Bool) → ℕ

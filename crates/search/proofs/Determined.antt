@@ -1,7 +1,8 @@
 -- A search has one course: after as many steps, two searches have settled the same and keep the same.
-use Rattle.std.proofs.Common.{◌≡◌, ℕ, zero, suc, ◌<◌, Bool, true, false, ◌⊎◌, List, [], ◌∷◌, take, sym, refl, ◌∙◌, subst, ap₂, inl, inr}
+use Rattle.std.proofs.Common.{◌≡◌, ℕ, zero, suc, ◌<◌, ◌⊎◌, List, [], ◌∷◌, take, sym, refl, ◌∙◌, subst, ap₂, inl, inr}
 use mathlib.Core.Path.{subst⁻¹}
 use Rattle.std.proofs.lemmas.Bool.{both_ways, cases_order}
+use Rattle.std.proofs.lemmas.Bool.Decides.{same_from_decides}
 use Rattle.counting.specs.Ways.{Way}
 use Rattle.problem.specs.Rules.{Rule}
 use Rattle.problem.specs.declared.day.Day.{Day}
@@ -29,12 +30,6 @@ compare (r ∷ rules) [] ns s t = absurd s
 compare (r ∷ rules) (m ∷ ms) [] s t = absurd t
 compare (r ∷ rules) (m ∷ ms) (n ∷ ns) s t = compared_cons m n ms ns (cases_order m n) (compare rules ms ns s.1 t.1)
 
--- tests that are true alike are equal
-same_test : (a b : Bool) → (a ≡ true → b ≡ true) → (b ≡ true → a ≡ true) → a ≡ b
-same_test true b f g = sym (f refl)
-same_test false true f g = g refl
-same_test false false f g = refl
-
 module _ {C : Type 0} (way : Way C) (day : Day) (rules : List Rule) where
   one_first : (s t : State) (ms ns : List ℕ) → Same rules s t → First way day rules s ms → First way day rules t ns → ms ≡ ns
   one_first s t ms ns e f g =
@@ -52,10 +47,7 @@ module _ {C : Type 0} (way : Way C) (day : Day) (rules : List Rule) where
   -- the same additions to the same settled selections
   settles_same : (P : List ℕ → Type 0) (s t s' t' : State) → Same rules s t → Settles way day rules P s s' → Settles way day rules P t t'
       → (ns : List ℕ) → Selection rules ns → s'.settled ns ≡ t'.settled ns
-  settles_same P s t s' t' e f g ns r =
-      same_test _ _
-      (λ h. (g ns r).1 (elim ((f ns r).0 h) [ inl i ↦ inl (sym (e.settled ns r) ∙ i) | inr p ↦ inr p ]))
-      (λ h. (f ns r).1 (elim ((g ns r).0 h) [ inl i ↦ inl (e.settled ns r ∙ i) | inr p ↦ inr p ]))
+  settles_same P s t s' t' e f g ns r = same_from_decides _ _ (f ns r) (rw (e.settled ns r) (g ns r))
 
   one_length : (ns : List ℕ) (s t s' t' : State) → s.kept ≡ t.kept → (f : Skips way day rules ns s s') (g : Skips way day rules ns t t') → f.j ≡ g.j
   one_length ns s t s' t' e f g =

@@ -38,7 +38,7 @@ module _ {C : Type 0} (way : Way C) where
 
 module _ {C : Type 0} (way : Way C) (laws : Ranked way) where
   pub self : (x : C) → AtMost way x x
-  self x = elim (laws.total x x) [ inl h ↦ h | inr h ↦ h ]
+  self = ranked_self way laws.total
 
   -- joining keeps 'at most' on both sides
   pub join_at_most : (a b x y : C) → AtMost way a b → AtMost way x y → AtMost way (way.join a x) (way.join b y)

@@ -2,10 +2,13 @@
 use Rattle.std.proofs.Common.{◌≡◌, ℕ, Bool, true, false, eqb, ltb, List, [], ◌∷◌, length, ℤ, ◌≤ℤ◌, refl, ap₂, inl, inr, arith}
 use lib.Signed.{le_z}
 use Rattle.std.specs.List.{AllByRecursion}
+use Rattle.std.specs.Bool.{Decides}
+use Rattle.std.proofs.ByRecursion.{Decides-by_and}
 use Rattle.std.proofs.lemmas.Int.{ints}
+use Rattle.std.proofs.lemmas.Bool.Decides.{Decides-and}
 use Rattle.std.proofs.lemmas.Bool.{and_parts, and_from, or_left, or_right, eqb-true, eq-eqb, ltb-true, lt-ltb, both_ways}
 use Rattle.problem.specs.Rules.{Rule}
-use Rattle.problem.specs.Timetables.{Choice, option, give_up, choices, gap, Chosen}
+use Rattle.problem.specs.Timetables.{Choice, option, give_up, choices, Chosen}
 use Rattle.search.specs.Selections.{Selection, Before}
 use Rattle.search.specs.Tests.{every, chosen, selects, before, same_numbers}
 
@@ -16,27 +19,21 @@ at_most_true : (a b : ℤ) → a ≤ℤ b → le_z a b ≡ true
 at_most_true a b h = grind (arith, ints)
 
 pub every_all : {X : Type 0} (p : X → Bool) (xs : List X) → every p xs ≡ true → AllByRecursion (λ x. p x ≡ true) xs
-every_all p [] h = tt
-every_all p (x ∷ xs) h = let q = and_parts (p x) (every p xs) h in (q.0, every_all p xs q.1)
+every_all p xs = (Decides-by_and p (λ x. p x ≡ true) (every p) (λ x. (λ h. h, λ h. h)) refl (λ _ _. refl) xs).0
 
 module _ (T : ℕ → ℕ) where
-  chosen_true : (ch : Choice) → chosen T ch ≡ true → Chosen T ch
-  chosen_true (option d) h =
-      let q = and_parts (le_z d.lo (gap T d.x d.y)) _ h in
-      (at_most _ _ q.0, at_most _ _ q.1)
-  chosen_true (give_up p) h = tt
+  chosen_decides : (ch : Choice) → Decides (chosen T ch) (Chosen T ch)
+  chosen_decides (option d) = Decides-and _ _ (at_most _ _, at_most_true _ _) (at_most _ _, at_most_true _ _)
+  chosen_decides (give_up p) = (λ _. tt, λ _. refl)
 
-  true_chosen : (ch : Choice) → Chosen T ch → chosen T ch ≡ true
-  true_chosen (option d) h = and_from _ _ (at_most_true _ _ h.0) (at_most_true _ _ h.1)
-  true_chosen (give_up p) h = refl
+  every_decides : (chs : List Choice) → Decides (every (chosen T) chs) (AllByRecursion (Chosen T) chs)
+  every_decides = Decides-by_and (chosen T) (Chosen T) (every (chosen T)) chosen_decides refl (λ _ _. refl)
 
   pub every_chosen : (chs : List Choice) → every (chosen T) chs ≡ true → AllByRecursion (Chosen T) chs
-  every_chosen [] h = tt
-  every_chosen (ch ∷ chs) h = let q = and_parts (chosen T ch) _ h in (chosen_true ch q.0, every_chosen chs q.1)
+  every_chosen chs = (every_decides chs).0
 
   pub chosen_every : (chs : List Choice) → AllByRecursion (Chosen T) chs → every (chosen T) chs ≡ true
-  chosen_every [] h = refl
-  chosen_every (ch ∷ chs) h = and_from _ _ (true_chosen ch h.0) (chosen_every chs h.1)
+  chosen_every chs = (every_decides chs).1
 
 pub selects_selection : (rules : List Rule) (ns : List ℕ) → selects rules ns ≡ true → Selection rules ns
 selects_selection [] [] h = tt

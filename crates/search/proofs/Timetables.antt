@@ -1,5 +1,5 @@
 -- Whether some timetable of a day has a property can be told where the property can be told of each.
-use Rattle.std.proofs.Common.{◌≡◌, ℕ, zero, suc, ◌<◌, ◌≤◌, ◌⊎◌, List, [], ◌∷◌, map, length, sym, refl, ap, ◌∙◌, subst, inl, inr, suc-le-suc, le_refl, le_of_suc-le-suc, not-suc-le-zero, eq-or-lt_of_le, arith}
+use Rattle.std.proofs.Common.{◌≡◌, ℕ, zero, suc, ◌<◌, ◌≤◌, ◌⊎◌, List, [], ◌∷◌, map, length, sym, refl, ap, ◌∙◌, subst, inl, inr, suc-le-suc, le_refl, le_of_suc-le-suc, arith, below_more}
 use native.Mathlib.Nat.{suc_inj}
 use Rattle.std.specs.List.{range_with_len, AllByRecursion}
 use Rattle.std.proofs.lemmas.List.FromFn.{length-map-range_with_len, get_or-map-range_with_len}
@@ -12,17 +12,13 @@ use Rattle.problem.specs.declared.day.Day.{Day}
 abbrev pub Decided : Type 0 → Type 0
 Decided A = A ⊎ (A → ⊥)
 
--- what holds below k, and at k, holds below k + 1
-up_to : (P : ℕ → Type 0) (k : ℕ) → ((n : ℕ) → n < k → P n) → P k → (n : ℕ) → n < suc k → P n
-up_to P k h i n l = elim (eq-or-lt_of_le l) [ inl e ↦ subst P (sym (suc_inj e)) i | inr b ↦ h n (le_of_suc-le-suc b) ]
-
 -- the least number below k with Q, or none: all below have P
 pub least_number : (P Q : ℕ → Type 0) → ((n : ℕ) → P n ⊎ Q n) → (k : ℕ)
     → ((n : ℕ) → n < k → P n) ⊎ ((j : ℕ) × (j < k) × Q j × ((n : ℕ) → n < j → P n))
-least_number P Q d zero = inl (λ n l. absurd (not-suc-le-zero l))
+least_number P Q d zero = inl (λ n l. absurd (omega arith))
 least_number P Q d (suc k) =
     elim (least_number P Q d k) [
-      | inl h ↦ elim (d k) [ inl p ↦ inl (up_to P k h p) | inr q ↦ inr (k, le_refl (suc k), q, h) ]
+      | inl h ↦ elim (d k) [ inl p ↦ inl (λ n l. below_more P k h p n (omega arith)) | inr q ↦ inr (k, le_refl (suc k), q, h) ]
       | inr f ↦ inr (f.0, omega arith, f.2, f.3)
     ]
 
