@@ -1,5 +1,5 @@
 -- Checked certificates are steps.
-use Rattle.std.proofs.Common.{◌≡◌, ℕ, suc, ◌-◌, ◌<◌, Bool, true, false, not, ◌||◌, leb, List, [], ◌∷◌, length, take, Some, None, Option, refl, subst, inl, inr, arith}
+use Rattle.std.proofs.Common.{◌≡◌, ℕ, suc, ◌-◌, ◌<◌, true, false, not, ◌||◌, leb, List, [], ◌∷◌, length, take, Some, None, Option, refl, subst, inl, inr, arith}
 use Rattle.std.proofs.lemmas.List.{take-take}
 use Rattle.std.proofs.lemmas.Bool.{and_parts, both_ways, leb-true, not-true}
 use Rattle.counting.specs.Ways.{Way}
@@ -29,10 +29,6 @@ module _ {C : Type 0} (way : Way C) (day : Day) (rules : List Rule) where
   outdone_false (Some plan) prefix h k = both_ways _ h k
 
   module _ (s : State) (ns : List ℕ) where
-    settled_before : (b c : Bool) → (not b || c) ≡ true → b ≡ true → c ≡ true
-    settled_before true c h e = h
-    settled_before false c h e = absurd (both_ways false refl e)
-
     pub first_true : is_first way day rules s ns ≡ true → First way day rules s ns
     first_true h =
         let p = and_parts (selects rules ns) _ h in
@@ -40,7 +36,10 @@ module _ {C : Type 0} (way : Way C) (day : Day) (rules : List Rule) where
         record {
           selection = selects_selection rules ns p.0;
           unsettled = not-true _ q.0;
-          earlier = λ ms r b. settled_before (before ms ns) (s.settled ms) (every_selection rules (λ ks. not (before ks ns) || s.settled ks) q.1 ms r) (before_true ms ns b);
+          earlier = λ ms r b.
+              let passed = every_selection rules (λ ks. not (before ks ns) || s.settled ks) q.1 ms r in
+              let earlier : before ms ns ≡ true = before_true ms ns b in
+              cc;
         }
 
     hopeful_true : (minutes : List ℕ) (k : ℕ) → hopeful_below way day rules s ns minutes k ≡ true → (i : ℕ) → i < k → Hopeful way day rules s (take i ns)

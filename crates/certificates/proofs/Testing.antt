@@ -1,16 +1,17 @@
 -- What the tests of certificates say.
-use Rattle.std.proofs.Common.{◌≡◌, ℕ, zero, suc, ◌+◌, ◌<◌, ◌≤◌, Bool, true, false, ◌&&◌, eqb, ltb, leb, List, [], ◌∷◌, ◌++◌, map, length, ℤ, pos, ◌≤ℤ◌, ◌<ℤ◌, sym, refl, subst, inl, inr, suc-le-suc, zero-le, le_of_suc-le-suc, arith}
-use lib.Signed.{le_z}
+use Rattle.std.proofs.Common.{◌≡◌, ℕ, zero, suc, ◌+◌, ◌<◌, ◌≤◌, Bool, true, false, ◌&&◌, eqb, ltb, leb, List, [], ◌∷◌, ◌++◌, map, length, ℤ, pos, ◌<ℤ◌, sym, refl, subst, inl, inr, suc-le-suc, zero-le, le_of_suc-le-suc, arith}
 use Rattle.std.specs.List.{range_with_len, ContainsAt, flat_map, AllByRecursion}
 use Rattle.std.proofs.lemmas.Int.{ints}
-use Rattle.std.proofs.lemmas.Bool.{and_parts, or_cases, both_ways, ltb-true, leb-true, eqb-true, and_from, cases_eq}
+use Rattle.std.proofs.ByRecursion.{All-weaker}
+use Rattle.std.proofs.lemmas.Bool.Decides.{Decides-below_and}
+use Rattle.std.proofs.lemmas.Bool.{and_parts, or_cases, both_ways, ltb-true, leb-true, eqb-true, and_from}
 use Rattle.problem.specs.Rules.{Rule}
 use Rattle.problem.specs.Timetables.{choices, minute}
 use Rattle.problem.specs.declared.day.Day.{Day}
 use Rattle.network.specs.declared.limit.Limit.{Limit}
 use Rattle.search.specs.Selections.{Selection, picked, Met}
 use Rattle.search.specs.Tests.{every}
-use Rattle.search.proofs.Testing.{at_most, every_all, every_chosen}
+use Rattle.search.proofs.Testing.{every_all, every_chosen}
 use Rattle.certificates.specs.Rings.{at_horizon, Stated, Chain, total, Ring}
 use Rattle.certificates.specs.Certificates.{enumerated, below, met, equal_integers, same_limit, among, stated, chained, ringed}
 
@@ -48,10 +49,7 @@ every_selection (r ∷ rules) p h (n ∷ ns) s =
     every_selection rules (λ ks. p (n ∷ ks)) (every_map p (λ ks. n ∷ ks) (enumerated rules) here) ns s.1
 
 pub below_each : (k : ℕ) (p : ℕ → Bool) → below k p ≡ true → (i : ℕ) → i < k → p i ≡ true
-below_each zero p h i l = absurd (omega arith)
-below_each (suc k) p h i l =
-    let q = and_parts (p k) (below k p) h in
-    elim (cases_eq i k) [ inl e ↦ subst (λ n. p n ≡ true) (sym e) q.0 | inr n ↦ below_each k p q.1 i (omega arith) ]
+below_each k p = (Decides-below_and p (λ n. p n ≡ true) (λ n. below n p) (λ n. (λ h. h, λ h. h)) refl (λ _. refl) k).0
 
 -- minutes past the list are 0
 within : (h : ℕ) (ms : List ℕ) → AllByRecursion (λ m. leb m h ≡ true) ms → (i : ℕ) → minute ms i ≤ h
@@ -68,11 +66,7 @@ met_true day rules minutes prefix h =
     )
 
 equal_true : (a b : ℤ) → equal_integers a b ≡ true → a ≡ b
-equal_true a b h =
-    let q = and_parts (le_z a b) (le_z b a) h in
-    let low : a ≤ℤ b = at_most a b q.0 in
-    let high : b ≤ℤ a = at_most b a q.1 in
-    omega (arith, ints)
+equal_true a b h = grind (arith, ints)
 
 pub same_limit_true : (l k : Limit) → same_limit l k ≡ true → l ≡ k
 same_limit_true l k h =
@@ -102,8 +96,7 @@ stated_true day ls l h =
     ]
 
 pub all_stated : (day : Day) (ls ring : List Limit) → every (stated day ls) ring ≡ true → AllByRecursion (Stated day ls) ring
-all_stated day ls [] h = tt
-all_stated day ls (l ∷ ring) h = let q = and_parts (stated day ls l) _ h in (stated_true day ls l q.0, all_stated day ls ring q.1)
+all_stated day ls ring h = All-weaker _ (Stated day ls) (stated_true day ls) ring (every_all (stated day ls) ring h)
 
 pub chained_true : (a b : ℕ) (ls : List Limit) → chained a b ls ≡ true → Chain a b ls
 chained_true a b [] h = eqb-true a b h

@@ -1,22 +1,16 @@
 -- The states that steps lead to.
-use Rattle.std.proofs.Common.{◌≡◌, ℕ, ◌<◌, ◌≤◌, Bool, true, ◌||◌, ◌⊎◌, ◌↔◌, List, length, take, refl, subst, inl, inr}
-use Rattle.std.proofs.lemmas.Bool.{or_cases, or_left, or_right}
+use Rattle.std.proofs.Common.{◌≡◌, ℕ, ◌<◌, ◌≤◌, Bool, true, ◌||◌, ◌⊎◌, ◌↔◌, List, length, take, refl}
+use Rattle.std.proofs.lemmas.Bool.Decides.{Decides-or}
 use Rattle.counting.specs.Ways.{Way}
 use Rattle.problem.specs.Rules.{Rule}
 use Rattle.problem.specs.declared.day.Day.{Day}
 use Rattle.search.specs.Searches.{State, Hopeless, Hopeful, Skips, Keeps}
 use Rattle.search.specs.Tests.{same_numbers, skipped, taken}
-use Rattle.search.proofs.Testing.{same_numbers_equal, same_numbers_self}
+use Rattle.search.proofs.Testing.{same_numbers_decides}
 
 -- one more test to the settled ones
 pub or_same : (b : Bool) (ms ns : List ℕ) → ((b || same_numbers ms ns) ≡ true) ↔ ((b ≡ true) ⊎ (ms ≡ ns))
-or_same b ms ns = (
-  λ h. elim (or_cases b (same_numbers ms ns) h) [ inl i ↦ inl i | inr i ↦ inr (same_numbers_equal ms ns i) ],
-  λ h. elim h [
-    | inl i ↦ or_left b (same_numbers ms ns) i
-    | inr e ↦ or_right b (same_numbers ms ns) (subst (λ ks. same_numbers ms ks ≡ true) e (same_numbers_self ms))
-  ],
-)
+or_same b ms ns = Decides-or b (same_numbers ms ns) (λ h. h, λ h. h) (same_numbers_decides ms ns)
 
 module _ {C : Type 0} (way : Way C) (day : Day) (rules : List Rule) (ns : List ℕ) (s : State) where
   pub skips : (j : ℕ) → j ≤ length ns → Hopeless way day rules s (take j ns) → ((i : ℕ) → i < j → Hopeful way day rules s (take i ns))

@@ -1,12 +1,12 @@
 -- The tests of a search say what its words say.
-use Rattle.std.proofs.Common.{◌≡◌, ℕ, Bool, true, false, eqb, ltb, List, [], ◌∷◌, length, ℤ, ◌≤ℤ◌, refl, ap₂, inl, inr, arith}
+use Rattle.std.proofs.Common.{◌≡◌, ℕ, Bool, true, eqb, ltb, List, [], ◌∷◌, length, ℤ, ◌≤ℤ◌, refl, ap₂, inl, inr, arith}
 use lib.Signed.{le_z}
 use Rattle.std.specs.List.{AllByRecursion}
 use Rattle.std.specs.Bool.{Decides}
 use Rattle.std.proofs.ByRecursion.{Decides-by_and}
 use Rattle.std.proofs.lemmas.Int.{ints}
-use Rattle.std.proofs.lemmas.Bool.Decides.{Decides-and}
-use Rattle.std.proofs.lemmas.Bool.{and_parts, and_from, or_left, or_right, eqb-true, eq-eqb, ltb-true, lt-ltb, both_ways}
+use Rattle.std.proofs.lemmas.Bool.Decides.{Decides-and, Decides-eqb, Decides-like, Decides-ltb}
+use Rattle.std.proofs.lemmas.Bool.{and_from, or_left, or_right, eq-eqb, lt-ltb}
 use Rattle.problem.specs.Rules.{Rule}
 use Rattle.problem.specs.Timetables.{Choice, option, give_up, choices, Chosen}
 use Rattle.search.specs.Selections.{Selection, Before}
@@ -35,13 +35,17 @@ module _ (T : ℕ → ℕ) where
   pub chosen_every : (chs : List Choice) → AllByRecursion (Chosen T) chs → every (chosen T) chs ≡ true
   chosen_every chs = (every_decides chs).1
 
+selects_decides : (rules : List Rule) (ns : List ℕ) → Decides (selects rules ns) (Selection rules ns)
+selects_decides [] [] = (λ _. tt, λ _. refl)
+selects_decides [] (n ∷ ns) = (λ h. cc, λ s. absurd s)
+selects_decides (r ∷ rules) [] = (λ h. cc, λ s. absurd s)
+selects_decides (r ∷ rules) (n ∷ ns) = Decides-and _ _ (Decides-ltb n (length (choices r))) (selects_decides rules ns)
+
 pub selects_selection : (rules : List Rule) (ns : List ℕ) → selects rules ns ≡ true → Selection rules ns
-selects_selection [] [] h = tt
-selects_selection [] (n ∷ ns) h = absurd (both_ways false refl h)
-selects_selection (r ∷ rules) [] h = absurd (both_ways false refl h)
-selects_selection (r ∷ rules) (n ∷ ns) h =
-    let p = and_parts (ltb n (length (choices r))) (selects rules ns) h in
-    (ltb-true n (length (choices r)) p.0, selects_selection rules ns p.1)
+selects_selection rules ns = (selects_decides rules ns).0
+
+pub selection_selects : (rules : List Rule) (ns : List ℕ) → Selection rules ns → selects rules ns ≡ true
+selection_selects rules ns = (selects_decides rules ns).1
 
 pub before_true : (ms ns : List ℕ) → Before ms ns → before ms ns ≡ true
 before_true [] ns b = absurd b
@@ -49,20 +53,9 @@ before_true (m ∷ ms) [] b = absurd b
 before_true (m ∷ ms) (n ∷ ns) (inl l) = or_left (ltb m n) _ (lt-ltb m n l)
 before_true (m ∷ ms) (n ∷ ns) (inr (e, b)) = or_right (ltb m n) _ (and_from (eqb m n) (before ms ns) (eq-eqb m n e) (before_true ms ns b))
 
-pub same_numbers_equal : (ms ns : List ℕ) → same_numbers ms ns ≡ true → ms ≡ ns
-same_numbers_equal [] [] h = refl
-same_numbers_equal [] (n ∷ ns) h = absurd (both_ways false refl h)
-same_numbers_equal (m ∷ ms) [] h = absurd (both_ways false refl h)
-same_numbers_equal (m ∷ ms) (n ∷ ns) h =
-    let p = and_parts (eqb m n) (same_numbers ms ns) h in
-    ap₂ ◌∷◌ (eqb-true m n p.0) (same_numbers_equal ms ns p.1)
-
-pub same_numbers_self : (ns : List ℕ) → same_numbers ns ns ≡ true
-same_numbers_self [] = refl
-same_numbers_self (n ∷ ns) = and_from (eqb n n) (same_numbers ns ns) (eq-eqb n n refl) (same_numbers_self ns)
-
-pub selection_selects : (rules : List Rule) (ns : List ℕ) → Selection rules ns → selects rules ns ≡ true
-selection_selects [] [] s = refl
-selection_selects [] (n ∷ ns) s = absurd s
-selection_selects (r ∷ rules) [] s = absurd s
-selection_selects (r ∷ rules) (n ∷ ns) s = and_from _ _ (lt-ltb n (length (choices r)) s.0) (selection_selects rules ns s.1)
+pub same_numbers_decides : (ms ns : List ℕ) → Decides (same_numbers ms ns) (ms ≡ ns)
+same_numbers_decides [] [] = (λ _. refl, λ _. refl)
+same_numbers_decides [] (n ∷ ns) = (λ h. cc, λ e. cc)
+same_numbers_decides (m ∷ ms) [] = (λ h. cc, λ e. cc)
+same_numbers_decides (m ∷ ms) (n ∷ ns) =
+    Decides-like _ (λ p. ap₂ ◌∷◌ p.0 p.1) (λ e. ((cc), (cc))) (Decides-and _ _ (Decides-eqb m n) (same_numbers_decides ms ns))
