@@ -1,11 +1,11 @@
 mod Choosing
 mod Reading
+mod Loadings
 mod Order
 mod Raising
-mod Loadings
+mod Bits
 mod Prices
 mod Fitting
-mod Stepping
 mod Starting
-mod Bits
+mod Stepping
 mod Held

@@ -1,41 +1,31 @@
 -- Prices along a selection, and hopeless prefixes.
-use Rattle.std.proofs.Common.{◌≡◌, ℕ, zero, suc, ◌+◌, ◌<◌, ◌≤◌, true, List, [], ◌∷◌, ◌++◌, map, length, get_or, take, fold, Option, sym, ap, ◌∙◌, subst, ap₂, inl, inr, arith}
+use Rattle.std.proofs.Common.{◌≡◌, ℕ, zero, suc, ◌+◌, ◌<◌, ◌≤◌, true, List, [], ◌∷◌, map, length, get_or, take, fold, Option, sym, ap, ◌∙◌, subst, ap₂, inl, inr, arith}
 use Rattle.std.proofs.lemmas.List.{map_push}
 use Rattle.std.proofs.lemmas.List.Sums.{fold_push}
 use Rattle.std.proofs.lemmas.Bool.{cases_eq}
 use Rattle.counting.specs.Ways.{Way}
 use Rattle.counting.specs.declared.penalty.Penalty.{Penalty}
 use Rattle.problem.specs.Costs.{charge, choice_cost}
-use Rattle.problem.specs.Rules.{Rule, rule_of}
-use Rattle.problem.specs.Timetables.{choices}
-use Rattle.problem.specs.declared.constraint.Constraint.{Constraint}
+use Rattle.problem.specs.Rules.{Rule}
 use Rattle.problem.specs.declared.day.Day.{Day}
 use Rattle.search.specs.Selections.{no_choice, picked, Feasible, price}
 use Rattle.search.specs.Tests.{selects}
-use Rattle.planner.specs.Choosing.{selection_in}
 use Rattle.planner.specs.Probing.{Beaten, HopelessAt, HopefulAt}
 use Rattle.planner.proofs.Choosing.{picked_more}
-use Rattle.planner.proofs.Reading.{count, rule_at, fits}
 
 pub price_none : {C : Type 0} (way : Way C) (rules : List Rule) (c : C) → c ≡ way.zero → c ≡ price way rules []
 price_none way [] c e = e
 price_none way (r ∷ rules) c e = e
 
-module _ {C : Type 0} (way : Way C) (cs : List Constraint) (ns : List ℕ) (placed : selects (map rule_of cs) (selection_in (map rule_of cs) ns) ≡ true) where
-  -- one rule more
-  pub price_more : (i : ℕ) (r : Constraint) (p : Penalty) (c d e : C) → i < length cs → r ≡ get_or cs i r → c ≡ price way (map rule_of cs) (take i ns)
-      → p ≡ charge (get_or (choices (rule_of r)) (get_or ns i 0) no_choice) → d ≡ way.reading p → e ≡ way.join c d → e ≡ price way (map rule_of cs) (take (i + 1) ns)
-  price_more i r p c d e l at before penalty reading joins =
-      let rs = map rule_of cs in
-      let n = count cs in
-      let few = fits cs ns placed in
-      let ch = get_or (choices (rule_of r)) (get_or ns i 0) no_choice in
-      let more : picked rs (take (i + 1) ns) ≡ picked rs (take i ns) ++ ch ∷ [] =
-      picked_more rs ns i (rule_of r) (omega arith) (omega arith) ∙ ap (λ q. picked rs (take i ns) ++ get_or (choices q) (get_or ns i 0) no_choice ∷ []) (rule_at cs i r l at (rule_of r)) in
-      joins ∙ ap₂ way.join before (reading ∙ ap way.reading penalty)
-      ∙ sym (ap (λ chs. fold way.join way.zero (map (choice_cost way) chs)) more
-      ∙ ap (fold way.join way.zero) (map_push (choice_cost way) (picked rs (take i ns)) ch)
-      ∙ fold_push way.join way.zero (map (choice_cost way) (picked rs (take i ns))) (choice_cost way ch))
+-- one rule more
+pub price_more : {C : Type 0} (way : Way C) (rules : List Rule) (ns : List ℕ) (i : ℕ) → selects rules ns ≡ true → i < length ns → (p : Penalty) (c d e : C)
+    → c ≡ price way rules (take i ns) → p ≡ charge (get_or (picked rules ns) i no_choice) → d ≡ way.reading p → e ≡ way.join c d → e ≡ price way rules (take (i + 1) ns)
+price_more way rules ns i placed l p c d e before penalty reading joins =
+    let ch = get_or (picked rules ns) i no_choice in
+    joins ∙ ap₂ way.join before (reading ∙ ap way.reading penalty)
+    ∙ sym (ap (λ chs. fold way.join way.zero (map (choice_cost way) chs)) (picked_more rules ns i placed l)
+    ∙ ap (fold way.join way.zero) (map_push (choice_cost way) (picked rules (take i ns)) ch)
+    ∙ fold_push way.join way.zero (map (choice_cost way) (picked rules (take i ns))) (choice_cost way ch))
 
 pub at_most_none : (P : ℕ → Type 0) → P 0 → (k : ℕ) → k ≤ 0 → P k
 at_most_none P h zero l = h

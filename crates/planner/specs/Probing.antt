@@ -1,9 +1,8 @@
 -- The shortest hopeless prefix, as it is looked for.
---   kept_price    the price of a plan, if one is kept
 --   Beaten        a price is kept and is at most another
 --   HopelessAt, HopefulAt   of a prefix, against the kept price
 --   Probed        the length of the shortest hopeless prefix, or none is
-use Rattle.std.specs.Prelude.{ℕ, ◌<◌, ◌≤◌, ◌⊎◌, List, take, Some, None, Option}
+use Rattle.std.specs.Prelude.{ℕ, ◌<◌, ◌≤◌, ◌⊎◌, List, length, take, Some, None, Option}
 use Rattle.counting.specs.Ways.{Way, AtMost}
 use Rattle.problem.specs.Rules.{Rule}
 use Rattle.problem.specs.declared.day.Day.{Day}
@@ -22,7 +21,7 @@ module _ {C : Type 0} (way : Way C) where
     abbrev pub HopefulAt : List ℕ → Type 0
     HopefulAt prefix = Feasible day rules prefix × (Beaten best (price way rules prefix) → ⊥)
 
-    -- of the prefixes of ns of at most n choices
-    abbrev pub Probed : List ℕ → ℕ → Option ℕ → Type 0
-    Probed ns n None = (i : ℕ) → i ≤ n → HopefulAt (take i ns)
-    Probed ns n (Some j) = (j ≤ n) × HopelessAt (take j ns) × ((i : ℕ) → i < j → HopefulAt (take i ns))
+    -- of the prefixes of ns
+    abbrev pub Probed : List ℕ → Option ℕ → Type 0
+    Probed ns None = (i : ℕ) → i ≤ length ns → HopefulAt (take i ns)
+    Probed ns (Some j) = (j ≤ length ns) × HopelessAt (take j ns) × ((i : ℕ) → i < j → HopefulAt (take i ns))

@@ -1,10 +1,9 @@
 -- What a planner means.
 --   search_state   which selections of a search are settled, and which is kept
-use Rattle.problem.specs.Problems.{rules_of}
 use Rattle.search.specs.Searches.{State}
 use Rattle.planner.specs.Facts.{state_of}
 use Rattle.planner.specs.declared.states.Search.{Search}
 
 -- the state that its progress stands for
 abbrev pub search_state : {W N : Type 0} → Search W N → State
-search_state s = state_of (rules_of s.problem) s.progress
+search_state s = state_of s.progress

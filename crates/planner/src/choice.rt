@@ -23,10 +23,7 @@ pub(crate) fn width(rule: &Constraint) -> usize
 pub(crate) fn option_of(rule: &Constraint, choice: usize) -> Option<Disjunct>
     ensures { result ≡ as_option (slice_index_or (choices (rule_of rule.now)) choice no_choice) }
 {
-    if choice < rule.disjuncts.len() {
-        return Some(rule.disjuncts[choice]);
-    }
-    None
+    rule.disjuncts.get(choice).copied()
 }
 
 /// The penalty of the choice.
@@ -34,11 +31,9 @@ pub(crate) fn penalty_of(rule: &Constraint, choice: usize) -> Penalty
     requires { choice < length (choices (rule_of rule.now)) }
     ensures { result ≡ charge (slice_index_or (choices (rule_of rule.now)) choice no_choice) }
 {
-    if choice < rule.disjuncts.len() {
-        return rule.disjuncts[choice].penalty;
-    }
-    match rule.kind {
-        Kind::Wish(penalty) => penalty,
-        Kind::Firm => unreachable(),
+    match (option_of(rule, choice), rule.kind) {
+        (Some(option), _) => option.penalty,
+        (None, Kind::Wish(penalty)) => penalty,
+        (None, Kind::Firm) => unreachable!(),
     }
 }

@@ -1,21 +1,32 @@
 //! The calls on a draft.
-ghost use Rattle.std.specs.Prelude.{◌≡◌, [], ◌∷◌, ◌++◌, map, IfOk, MatchResult};
+ghost use Rattle.std.specs.Prelude.{◌≡◌, [], ◌∷◌, ◌++◌, ◌≤◌, map, replicate, IfOk, MatchResult};
 ghost use Rattle.std.specs.Option.{option_map};
 ghost use Rattle.std.specs.Result.{result_err};
 ghost use Rattle.std.specs.List.{remove};
+ghost use Rattle.problem.specs.Bounds.{max_rules};
 ghost use Rattle.problem.specs.Checks.{first_refusal};
 ghost use Rattle.problem.specs.Rules.{rule_of};
 ghost use Rattle.problem.specs.Problems.{MadeOf, rules_of, set_checks, adopt_checks, drop_checks};
 ghost use Rattle.search.specs.Searches.{Start};
 ghost use Rattle.planner.specs.Views.{search_state};
 
-use crate::progress::Progress;
+use crate::progress::{Choices, Progress};
 use crate::states::{Draft, Search};
 use counting::Counting;
 use network::Network;
 use problem::{Constraint, Day, MAX_RULES, Problem, Refusal, Unadopted};
 use std::alloc::{AllocError, Global};
 use std::marker::PhantomData;
+
+/// The first choices of so many rules.
+fn first_choices(rules: usize) -> Choices
+    requires { rules ≤ max_rules }
+    ensures { result.items ≡ replicate rules 0 }
+{
+    let mut choices = Choices::from([0; MAX_RULES]);
+    choices.truncate(rules);
+    choices
+}
 
 impl<N: Network> Draft<N> {
     /// The draft of one event, horizon 0 and no rules. Takes all the memory that the planner will need, and is the only
@@ -66,8 +77,7 @@ impl<N: Network> Draft<N> {
     {
         let Draft { problem, network } = self;
         let progress = Progress {
-            position: [0; MAX_RULES],
-            ended: false,
+            position: Some(first_choices(problem.rules().len())),
             plan: None,
         };
         Search {

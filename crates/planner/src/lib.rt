@@ -3,13 +3,17 @@
 
 mod advance;
 mod choice;
+mod cursor;
 mod drafts;
 mod given;
 mod load;
 mod outcome;
+mod price;
 mod probe;
 mod progress;
 mod searches;
+mod select;
+mod selection;
 mod states;
 mod step;
 

@@ -1,30 +1,13 @@
-//! Prices along a selection, and its shortest hopeless prefix.
-ghost use Rattle.std.specs.Prelude.{◌≡◌, true, map, length, None, Decides};
-ghost use Rattle.problem.specs.Rules.{rule_of};
-ghost use Rattle.search.specs.Selections.{Fit, price};
-ghost use Rattle.search.specs.Tests.{selects};
-ghost use Rattle.planner.specs.Choosing.{selection_in};
-ghost use Rattle.planner.specs.Loading.{Loaded};
+//! The shortest hopeless prefix of a selection.
+ghost use Rattle.std.specs.Prelude.{◌≡◌, length, None, Decides};
+ghost use Rattle.planner.specs.Choosing.{rules_in};
+ghost use Rattle.planner.specs.Loading.{Stands};
 ghost use Rattle.planner.specs.Probing.{Beaten, Probed};
 
-use crate::choice::penalty_of;
-use crate::load::load;
-use crate::progress::Choices;
+use crate::cursor::Cursor;
+use crate::selection::Selection;
 use counting::Counting;
 use network::Network;
-use problem::Constraint;
-
-/// The costs of the choices, joined in rule order from zero.
-pub(crate) fn price_of<W: Counting>(rules: &[Constraint], choices: &Choices) -> W
-    requires { selects (map rule_of rules.now) (selection_in (map rule_of rules.now) choices.now) ≡ true }
-    ensures { result ≡ price W.Counting.way (map rule_of rules.now) (selection_in (map rule_of rules.now) choices.now) }
-{
-    let mut total = W::ZERO;
-    for (i, rule) in rules.iter().enumerate() {
-        total = total.join(W::reading(penalty_of(rule, choices[i] as usize)));
-    }
-    total
-}
 
 /// Whether a price is kept and is at most the other.
 fn beaten<W: Counting>(best: Option<W>, price: W) -> bool
@@ -36,34 +19,30 @@ fn beaten<W: Counting>(best: Option<W>, price: W) -> bool
     }
 }
 
-/// How many choices are loaded in the end, and the length of the shortest hopeless prefix of the position, if there is
-/// one.
-pub(crate) fn probe<W: Counting, N: Network>(
-    rules: &[Constraint],
-    position: &Choices,
-    best: Option<W>,
-    depth: usize,
-    network: &mut N,
-) -> (usize, Option<usize>)
-    requires fit { Fit (N.Network.net network.old).day (map rule_of rules.now) }
-    requires placed { selects (map rule_of rules.now) (selection_in (map rule_of rules.now) position.now) ≡ true }
-    requires loaded { Loaded (N.Network.net network.old).day (map rule_of rules.now) position.now depth (N.Network.net network.old) }
-    ensures loaded { Loaded (N.Network.net network.old).day (map rule_of rules.now) position.now result.0 (N.Network.net network.new) }
-    ensures probed { Probed W.Counting.way (N.Network.net network.old).day (map rule_of rules.now) best position.now (length rules.now) result.1 }
-    ensures whole { result.1 ≡ None → result.0 ≡ length rules.now }
-{
-    let mut price = W::ZERO;
-    if beaten(best, price) {
-        return (depth, Some(0));
-    }
-    for (i, rule) in rules.iter().enumerate() {
-        if !load(rules, position, depth, i, network) {
-            return (i.max(depth), Some(i + 1));
-        }
-        price = price.join(W::reading(penalty_of(rule, position[i] as usize)));
+impl<W: Counting, N: Network> Cursor<'_, W, N> {
+    /// The length of the shortest hopeless prefix of the selection, if there is one. Without one, the whole selection
+    /// is loaded in the end.
+    pub(crate) fn probe(&mut self, selection: Selection) -> Option<usize>
+        requires stands { Stands selection self.old.depth (N.Network.net self.old.network.now) }
+        ensures stands { Stands selection.entry self.new.depth (N.Network.net self.new.network.now) }
+        ensures probed { Probed W.Counting.way selection.entry.problem.now.day (rules_in selection.entry) self.old.best selection.entry.choices.now result }
+        ensures whole { result ≡ None → self.new.depth ≡ length selection.entry.choices.now }
+        ensures best { self.new.best ≡ self.old.best }
+    {
+        let best = self.best;
+        let mut price = W::ZERO;
         if beaten(best, price) {
-            return ((i + 1).max(depth), Some(i + 1));
+            return Some(0);
         }
+        for i in 0..selection.choices.len() {
+            if self.load(selection, i).is_err() {
+                return Some(i + 1);
+            }
+            price = price.join(W::reading(selection.penalty(i)));
+            if beaten(best, price) {
+                return Some(i + 1);
+            }
+        }
+        None
     }
-    (rules.len(), None)
 }

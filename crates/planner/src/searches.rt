@@ -9,9 +9,7 @@ ghost use Rattle.planner.specs.Calls.{press_checks, read_checks, Reads, word_of}
 ghost use Rattle.planner.specs.Stepping.{Pressed};
 ghost use Rattle.planner.specs.Views.{search_state};
 
-use crate::given::given_up;
 use crate::outcome::Outcome;
-use crate::probe::price_of;
 use crate::states::{Draft, Search};
 use crate::step::run;
 use counting::Counting;
@@ -45,14 +43,7 @@ impl<W: Counting, N: Network> Search<W, N> {
         if steps < 1 || steps > MAX_PRESS {
             return Err(Refusal::PressRange);
         }
-        let day = self.problem.day();
-        let made = run::<W, N>(
-            day,
-            self.problem.rules(),
-            &mut self.progress,
-            &mut self.network,
-            steps,
-        );
+        let made = run::<W, N>(&self.problem, &mut self.progress, &mut self.network, steps);
         Ok(made)
     }
 
@@ -60,17 +51,19 @@ impl<W: Counting, N: Network> Search<W, N> {
     pub fn outcome(&self) -> Outcome<W>
         ensures { Tells W.Counting.way (rules_of self.now.problem) (search_state self.now) result.word result.cost result.given }
     {
-        match self.progress.plan {
-            Some(plan) => Outcome {
-                word: word(self.progress.ended, true),
-                cost: price_of(self.problem.rules(), &plan.choices),
-                given: given_up(self.problem.rules(), &plan.choices),
-            },
-            None => Outcome {
-                word: word(self.progress.ended, false),
+        let ended = self.progress.position.is_none();
+        let Some(plan) = &self.progress.plan else {
+            return Outcome {
+                word: word(ended, false),
                 cost: W::ZERO,
                 given: 0,
-            },
+            };
+        };
+        let selection = plan.selection(&self.problem);
+        Outcome {
+            word: word(ended, true),
+            cost: selection.price(),
+            given: selection.given_up(),
         }
     }
 
@@ -80,13 +73,8 @@ impl<W: Counting, N: Network> Search<W, N> {
         ensures refused { result_err result ≡ first_refusal (read_checks self.now.problem.day (search_state self.now) event) }
         ensures minute { IfOk result (λ t. Reads self.now.problem.day (rules_of self.now.problem) (search_state self.now) event t) }
     {
-        let Some(plan) = self.progress.plan else {
-            return Err(Refusal::NoPlan);
-        };
-        if event >= self.problem.day().events() {
-            return Err(Refusal::NoSuchEvent);
-        }
-        Ok(plan.minutes[event])
+        let plan = self.progress.plan.as_ref().ok_or(Refusal::NoPlan)?;
+        plan.minutes.get(event).copied().ok_or(Refusal::NoSuchEvent)
     }
 
     /// Turns the search back into a draft of its day and rules; its progress is lost.

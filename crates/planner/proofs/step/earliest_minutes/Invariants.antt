@@ -4,5 +4,7 @@ use Rattle.planner.proofs.step.earliest_minutes.Given as goal
 
 -- the minutes so far are the smallest
 abbrev pub invariant-loop-event : goal.invariant-loop-event
-invariant-loop-event g l =
-    (length l.minutes ≡ 32) × ((i : ℕ) → i < l.event → Earliest (g.N.Network.net l.network) i (get_or l.minutes i 0))
+invariant-loop-event g l = record {
+  each : length l.minutes.items ≡ l.event;
+  earliest : (i : ℕ) → i < l.event → Earliest (g.N.Network.net l.network) i (get_or l.minutes.items i 0);
+}

@@ -1,21 +1,21 @@
-use Rattle.std.proofs.Common.{ap, ◌∙◌}
+use Rattle.std.proofs.Common.{ap₂, ◌∙◌}
 use Rattle.problem.specs.Problems.{rules_of}
+use Rattle.problem.specs.declared.problems.Problem.{Problem}
 use Rattle.search.specs.Outcomes.{given_bits}
 use Rattle.search.specs.Selections.{price}
-use Rattle.planner.specs.Choosing.{selection_in}
-use Rattle.planner.proofs.Held.{held, told_kept, told_none}
+use Rattle.planner.proofs.Held.{told_kept, told_none}
 use Rattle.planner.proofs.states.Search.outcome.Goals as goal
 
-pub returns-in-Some : goal.returns-in-Some
-returns-in-Some g c =
+pub returns-in_default : goal.returns-in_default
+returns-in_default g c =
+    let s = c.args.self.now in
+    told_none s.problem.day (rules_of s.problem) s.progress s.sound c.in_default.is g.W.Counting.way c.is_none-ended.result c.word.result c.ZERO.result c.is_none-ended.ensures c.word.ensures (c.ZERO.ensures ∙ g.met.W.Counting.zero_cost)
+
+pub returns : goal.returns
+returns g c =
     let s = c.args.self.now in
     let way = g.W.Counting.way in
-    let plan = c.in-Some.plan in
-    told_kept s.problem.day (rules_of s.problem) s.progress (held s) plan c.in-Some.is way c.word.result c.price_of.result c.given_up.result c.word.ensures
-    (c.price_of.ensures ∙ ap (λ rs. price way rs (selection_in rs plan.choices)) c.rules.ensures)
-    (c.given_up.ensures ∙ ap (λ rs. given_bits rs (selection_in rs plan.choices)) c.rules-in-Some.ensures)
-
-pub returns-in-None : goal.returns-in-None
-returns-in-None g c =
-    let s = c.args.self.now in
-    told_none s.problem.day (rules_of s.problem) s.progress (held s) c.in-None.is g.W.Counting.way c.word-in-None.result c.ZERO.result c.word-in-None.ensures (c.ZERO.ensures ∙ g.met.W.Counting.zero_cost)
+    let told = c.selection-selection.ensures in
+    told_kept s.problem.day (rules_of s.problem) s.progress s.sound c.in-Some.plan c.in-Some.is way c.is_none-ended.result c.word-2.result c.price.result c.given_up.result c.is_none-ended.ensures c.word-2.ensures
+    (c.price.ensures ∙ ap₂ (λ (p : Problem) ns. price way (rules_of p) ns) told.problem told.choices)
+    (c.given_up.ensures ∙ ap₂ (λ (p : Problem) ns. given_bits (rules_of p) ns) told.problem told.choices)
