@@ -1,10 +1,11 @@
 -- What the tests of certificates say.
-use Rattle.std.proofs.Common.{◌≡◌, ℕ, zero, suc, ◌+◌, ◌<◌, ◌≤◌, Bool, true, false, ◌&&◌, eqb, ltb, leb, List, [], ◌∷◌, ◌++◌, map, length, ℤ, pos, ◌<ℤ◌, sym, refl, subst, inl, inr, suc-le-suc, zero-le, le_of_suc-le-suc, arith}
+use Rattle.std.proofs.Common.{◌≡◌, ℕ, zero, suc, ◌+◌, ◌<◌, ◌≤◌, Bool, true, false, ◌&&◌, eqb, ltb, leb, List, [], ◌∷◌, ◌++◌, map, length, ℤ, pos, ◌<ℤ◌, sym, refl, ◌∙◌, subst, inl, inr, suc-le-suc, zero-le, le_of_suc-le-suc, arith}
 use Rattle.std.specs.List.{range_with_len, ContainsAt, flat_map, AllByRecursion}
 use Rattle.std.proofs.lemmas.Int.{ints}
+use Rattle.std.proofs.lemmas.List.Folds.{list_all-append, list_all-map}
 use Rattle.std.proofs.ByRecursion.{All-weaker}
 use Rattle.std.proofs.lemmas.Bool.Decides.{Decides-below_and}
-use Rattle.std.proofs.lemmas.Bool.{and_parts, or_cases, both_ways, ltb-true, leb-true, eqb-true, and_from}
+use Rattle.std.proofs.lemmas.Bool.{and_parts, or_cases, both_ways, ltb-true, leb-true, eqb-true}
 use Rattle.problem.specs.Rules.{Rule}
 use Rattle.problem.specs.Timetables.{choices, minute}
 use Rattle.problem.specs.declared.day.Day.{Day}
@@ -17,15 +18,7 @@ use Rattle.certificates.specs.Certificates.{enumerated, below, met, equal_intege
 
 module _ {X : Type 0} (p : X → Bool) where
   every_parts : (xs ys : List X) → every p (xs ++ ys) ≡ true → (every p xs ≡ true) × (every p ys ≡ true)
-  every_parts [] ys h = (refl, h)
-  every_parts (x ∷ xs) ys h =
-      let q = and_parts (p x) (every p (xs ++ ys)) h in
-      let r = every_parts xs ys q.1 in
-      (and_from (p x) (every p xs) q.0 r.0, r.1)
-
-  every_map : {Y : Type 0} (f : Y → X) (ys : List Y) → every p (map f ys) ≡ true → every (λ y. p (f y)) ys ≡ true
-  every_map f [] h = refl
-  every_map f (y ∷ ys) h = let q = and_parts (p (f y)) (every p (map f ys)) h in and_from _ _ q.0 (every_map f ys q.1)
+  every_parts xs ys h = and_parts _ _ (sym (list_all-append p xs ys) ∙ h)
 
   -- every element of lists joined, for each number from a on
   every_joined : (f : ℕ → List X) (a k n : ℕ) → every p (flat_map f (range_with_len a k)) ≡ true → n < k → every p (f (a + n)) ≡ true
@@ -46,7 +39,7 @@ every_selection (r ∷ rules) p h (n ∷ ns) s =
     let here : every p (map (λ ks. n ∷ ks) (enumerated rules)) ≡ true =
     subst (λ b. every p (map (λ ks. b ∷ ks) (enumerated rules)) ≡ true) (let e : 0 + n ≡ n = omega arith in e)
     (every_joined p (λ m. map (λ ks. m ∷ ks) (enumerated rules)) 0 (length (choices r)) n h s.0) in
-    every_selection rules (λ ks. p (n ∷ ks)) (every_map p (λ ks. n ∷ ks) (enumerated rules) here) ns s.1
+    every_selection rules (λ ks. p (n ∷ ks)) (sym (list_all-map p (λ ks. n ∷ ks) (enumerated rules)) ∙ here) ns s.1
 
 pub below_each : (k : ℕ) (p : ℕ → Bool) → below k p ≡ true → (i : ℕ) → i < k → p i ≡ true
 below_each k p = (Decides-below_and p (λ n. p n ≡ true) (λ n. below n p) (λ n. (λ h. h, λ h. h)) refl (λ _. refl) k).0

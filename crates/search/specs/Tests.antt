@@ -7,14 +7,14 @@
 --   skipped        the state after a step that settles all selections with a prefix
 --   taken          the state after a step that keeps a plan
 use Rattle.std.specs.Prelude.{ℕ, Bool, true, false, ◌&&◌, ◌||◌, List, [], ◌∷◌, length, take, Some, ◌==◌, int_le, nat_lt}
+use Rattle.std.specs.List.{list_all}
 use Rattle.problem.specs.Rules.{Rule}
 use Rattle.problem.specs.Timetables.{Choice, option, give_up, choices, gap}
 use Rattle.search.specs.Searches.{State}
 
 -- the test passes on each
 abbrev pub every : {X : Type 0} → (X → Bool) → List X → Bool
-every p [] = true
-every p (x ∷ xs) = p x && every p xs
+every p xs = list_all p xs
 
 -- as `Chosen`
 abbrev pub chosen : (ℕ → ℕ) → Choice → Bool
