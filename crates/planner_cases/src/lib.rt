@@ -7,3 +7,5 @@ mod bench;
 mod books;
 #[cfg(test)]
 mod presses;
+#[cfg(test)]
+mod replays;
