@@ -1,10 +1,11 @@
 //! Standard input, cut into lines.
-ghost use Rattle.std.specs.Prelude.{IfOk};
+ghost use Rattle.std.specs.Prelude.{◌≡◌, IfOk, IfErr};
+ghost use Rattle.std.specs.IoError.{error_kind};
 ghost use Rattle.lines.specs.Lines.{lines_left, AtStart, TellsInTurn};
 
 use crate::line::Line;
 use std::io;
-use std::io::{BufReader, Bytes, Read, Stdin};
+use std::io::{BufReader, Bytes, ErrorKind, Read, Stdin};
 
 /// The lines of a reader, one after the other; the last one may lack its line feed.
 #[derive(Drop)]
@@ -43,9 +44,10 @@ impl<R: Read + Drop> Iterator for Lines<R> {
     }
 }
 
-/// The lines of standard input. No contract can say what is read.
+/// The lines of standard input. Fails only for want of memory. No contract can say what is read.
 pub fn read_lines(rt: &HostRuntime) -> io::Result<Lines<Stdin>>
-    ensures { IfOk result AtStart }
+    ensures lines { IfOk result AtStart }
+    ensures memory { IfErr result (λ error. error_kind error ≡ ErrorKind.OutOfMemory) }
 {
     let input = BufReader::new(rt.alloc(), rt.stdin())?;
     Ok(Lines {
