@@ -98,19 +98,19 @@ pub record RowsOpened (day : Day) (i : ℕ) (D : Square) : Type 0 where
   pub left : (k : ℕ) → i ≤ k → k < max_events → get_or D k [] ≡ replicate max_events (reach day k)
 
 module _ (day : Day) where
-  pub opened_none : (far : ℤ) → far ≡ pos day.horizon → RowsOpened day 0 (set (replicate max_events (replicate max_events far)) 0 (replicate max_events (pos 0)))
-  opened_none far is = record { size = refl; done = λ k j lt. absurd (omega arith); left = left }
+  pub opened_none : (far : ℤ) → far ≡ pos day.horizon → (D : Square)
+      → D ≡ set (replicate max_events (replicate max_events far)) 0 (replicate max_events (pos 0)) → RowsOpened day 0 D
+  opened_none far is D filled = record { size = ap length filled; done = λ k j lt. absurd (omega arith); left = left }
     where
-      left : (k : ℕ) → 0 ≤ k → k < max_events
-          → get_or (set (replicate max_events (replicate max_events far)) 0 (replicate max_events (pos 0))) k [] ≡ replicate max_events (reach day k)
+      left : (k : ℕ) → 0 ≤ k → k < max_events → get_or D k [] ≡ replicate max_events (reach day k)
       left k le lt =
           ⊎_elim
           (λ (e : k ≡ 0).
-          let G : ℕ → Type 0 = λ m.
-          get_or (set (replicate max_events (replicate max_events far)) 0 (replicate max_events (pos 0))) m [] ≡ replicate max_events (reach day m) in
-          subst G (sym e) refl)
+          let G : ℕ → Type 0 = λ m. get_or D m [] ≡ replicate max_events (reach day m) in
+          subst G (sym e) (ap (λ E. get_or E 0 []) filled))
           (λ (apart : k ≡ 0 → ⊥).
-          get_or-set_other (replicate max_events (replicate max_events far)) 0 k (replicate max_events (pos 0)) [] apart
+          ap (λ E. get_or E k []) filled
+          ∙ get_or-set_other (replicate max_events (replicate max_events far)) 0 k (replicate max_events (pos 0)) [] apart
           ∙ get_or-replicate max_events k (replicate max_events far) [] lt
           ∙ ap (replicate max_events) (is ∙ sym (cond-false (k == 0) (pos 0) (pos day.horizon) (ne_eqb k 0 apart))))
           (cases_eq k 0)

@@ -1,5 +1,5 @@
 //! Tables of distances between all pairs of a day's events.
-ghost use Rattle.std.specs.Prelude.{◌≡◌, ◌<◌, ◌≤◌, ◌+ℤ◌, ◌≤ℤ◌, ℕ, pos, length};
+ghost use Rattle.std.specs.Prelude.{◌≡◌, ℕ, ◌<◌, length, pos, ◌+ℤ◌, ◌≤ℤ◌};
 ghost use Rattle.std.specs.Int.{int_min, int_wrap, w16};
 ghost use Rattle.problem.specs.Bounds.{max_events};
 ghost use Rattle.network.specs.Limits.{Lawful};

@@ -1,13 +1,12 @@
 //! The calls on a network of shortest distances.
+ghost use Rattle.std.specs.Prelude.{◌≡◌, ◌+◌, ◌-◌, ◌<◌, pos, ◌+ℤ◌, ◌≤ℤ◌, IfOk, vec_len, vec_capacity};
 ghost use Rattle.std.specs.List.{HoldsAt};
-ghost use Rattle.network.specs.Limits.{Lawful};
-ghost use Rattle.square_network.specs.Distances.{at};
-ghost use Rattle.std.specs.Prelude.{pos, ◌+ℤ◌, ◌≤ℤ◌, ◌≡◌, ◌∷◌, ◌++◌, ◌+◌, ◌<◌, ◌≤◌, ◌-◌, IfOk, vec_len, vec_capacity};
 ghost use Rattle.network.specs.Calls.{Emptied};
-ghost use Rattle.network.specs.Lists.{net_of};
+ghost use Rattle.network.specs.Limits.{Lawful};
+ghost use Rattle.square_network.specs.Answered;
+ghost use Rattle.square_network.specs.Distances.{at};
 ghost use Rattle.square_network.specs.Model.{modelled};
 ghost use Rattle.square_network.specs.Shortest.{Shortest, Lengthened};
-ghost use Rattle.square_network.specs.Answered;
 
 use crate::distances::Distances;
 use crate::square::SquareNetwork;

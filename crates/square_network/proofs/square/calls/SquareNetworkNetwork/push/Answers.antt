@@ -1,21 +1,29 @@
 use Rattle.std.proofs.Common.{◌≡◌, pos, ◌+ℤ◌, ◌≤ℤ◌, refl, subst, inr, arith, rules}
 use Rattle.std.proofs.lemmas.Int.{ints}
+use Rattle.problem.specs.declared.day.Day.{Day}
 use Rattle.problem.specs.declared.refusal.Refusal.TheVariants.{Clash}
 use Rattle.network.specs.Calls.{Clashing, with_limit}
 use Rattle.network.specs.Limits.{Lawful}
 use Rattle.network.specs.Lists.{net_of}
-use Rattle.square_network.specs.Distances.{at}
+use Rattle.network.proofs.Taken.{lawful_x, lawful_y, lawful_low, lawful_high}
+use Rattle.square_network.specs.Distances.{at, Near}
 use Rattle.square_network.specs.Model.{modelled}
 use Rattle.square_network.specs.declared.distances.Distances.{Distances}
 use Rattle.square_network.proofs.Pushes.{passes, taken, back_range, clashes}
+use Rattle.square_network.proofs.Longer.{near}
 use Rattle.square_network.proofs.Granting.{held_after, granted}
 use Rattle.square_network.proofs.square.calls.SquareNetworkNetwork.push.Goals as goal
 
 pub overflow_add-distance : goal.overflow_add-distance
 overflow_add-distance c =
     let m = modelled c.args.self.now in
-    let lawful : Lawful m.day c.args.limit = taken m c.args.limit c.day.result c.len.result c.day.ensures c.len.ensures c.in_ok-check_limit.ensures in
-    let back = back_range m.day m.limits c.shortest.result.now c.shortest.ensures.shortest c.args.limit lawful in
+    let l = c.args.limit in
+    let d = c.shortest.result.now in
+    let lawful : Lawful m.day l = taken m l c.day.result c.len.result c.day.ensures c.len.ensures c.in_ok-check_limit.ensures in
+    let within : Near m.day d.rows = subst (λ (day : Day). Near day d.rows) c.shortest.ensures.shortest.of_day (near d) in
+    let back = within l.y l.x (lawful_y m.day l lawful) (lawful_x m.day l lawful) in
+    let low = lawful_low m.day l lawful in
+    let high = lawful_high m.day l lawful in
     omega (arith, ints)
 
 pub returns-then-distance-limit-lt0 : goal.returns-then-distance-limit-lt0
