@@ -1,5 +1,5 @@
 -- The smallest minutes of each beginning of the limits, and how the calls keep them.
-use Rattle.std.proofs.Common.{◌≡◌, ℕ, ◌+◌, ◌<◌, ◌≤◌, List, [], ◌∷◌, ◌++◌, length, take, replicate, get_or, set, sym, ap, ◌∙◌, subst, refl, inl, inr, ⊎_elim, Err, Ok, arith}
+use Rattle.std.proofs.Common.{◌≡◌, ℕ, ◌+◌, ◌-◌, ◌<◌, ◌≤◌, List, [], ◌∷◌, ◌++◌, length, take, replicate, get_or, set, sym, ap, ◌∙◌, subst, refl, inl, inr, ⊎_elim, Err, Ok, arith}
 use Rattle.std.specs.List.{AllByRecursion}
 use Rattle.std.proofs.ByRecursion.{All-weaker, All-push}
 use Rattle.std.proofs.lemmas.List.{get_or-set_same, get_or-set_other, get_or-replicate, get_or_past, length-replicate, length_push, take_all, take-append-le}
@@ -122,26 +122,29 @@ without_newest m m' l l' e =
     let G : List Limit → Net = λ ls. record { day = m'.day; limits = ls } in
     ap F (ap (λ n. n.day) e) ∙ ap G (same_before m.limits m'.limits l l' (ap (λ n. n.limits) e))
 
--- the limit l is put on the network s, which becomes n, and r begins to relax
+-- the limit l is put on the network s, which becomes n with k limits, and r begins to relax the newest minutes
 module _
-    (s : ListNetwork) (l : Limit) (n : Net) (put : n ≡ with_limit (modelled s) l)
-    (r : Relaxation) (same : net_of r.limits.now ≡ n) (newest_is : r.newest ≡ l) (k : ℕ)
-    (at : k ≡ length (modelled s).limits) (starts : r.times ≡ get_or s.times k [])
+    (s : ListNetwork) (l : Limit) (n : Net) (put : n ≡ with_limit (modelled s) l) (k : ℕ) (count : k ≡ length n.limits)
+    (r : Relaxation) (same : net_of r.limits.now ≡ n) (newest_is : r.newest ≡ l) (starts : r.times ≡ get_or s.times (k - 1) [])
   where
     abbrev row : List ℕ
     row = get_or s.times (length (modelled s).limits) []
 
+    longer_by_one : k ≡ length (modelled s).limits + 1
+    longer_by_one = count ∙ (ap (λ o. length o.limits) put ∙ length_push (modelled s).limits l)
+
     at_start : (P : Net → Limit → List ℕ → Type 0) → P (net_of r.limits.now) r.newest r.times → P (with_limit (modelled s) l) l row
     at_start P h =
         let F : Net → Type 0 = λ m. P m l row in
-        let G : Limit → Type 0 = λ k. P (net_of r.limits.now) k row in
-        let row_is : r.times ≡ row = starts ∙ ap (λ j. get_or s.times j []) at in
+        let G : Limit → Type 0 = λ j. P (net_of r.limits.now) j row in
+        let place : k - 1 ≡ length (modelled s).limits = omega (arith, longer_by_one) in
+        let row_is : r.times ≡ row = starts ∙ ap (λ j. get_or s.times j []) place in
         subst F (same ∙ put) (subst G newest_is (subst (P (net_of r.limits.now) r.newest) row_is h))
 
-    pub put_clashes : Settled r (Err (record {})) → Unsolvable (with_limit (modelled s) l)
-    put_clashes h = clashes (modelled s) l row (newest s) (at_start (λ m l row. Lost m.day l m.limits row) h)
+    pub put_clashes : (ts : List ℕ) → Settled r (Err (record {})) ts → Unsolvable (with_limit (modelled s) l)
+    put_clashes ts h = clashes (modelled s) l row (newest s) (at_start (λ m l row. Lost m.day l m.limits row) h)
 
-    module _ (ts : List ℕ) (h : Settled r (Ok ts)) where
+    module _ (ts : List ℕ) (h : Settled r (Ok tt) ts) where
       put_settled : Smallest (with_limit (modelled s) l) ts
       put_settled = settled (modelled s) l row (newest s) ts (at_start (λ m l row. Settling m.day l m.limits row ts) h)
 
@@ -151,8 +154,7 @@ module _
       pub put_stacked : (j : ℕ) → j ≡ length n.limits → length n.limits ≤ max_limits → Stacked n (set s.times j ts)
       put_stacked j is few =
           let m = modelled s in
-          let longer : length n.limits ≡ length m.limits + 1 = ap (λ o. length o.limits) put ∙ length_push m.limits l in
-          let place : length m.limits + 1 ≡ j = omega (arith, is) in
+          let place : length m.limits + 1 ≡ j = omega (arith, longer_by_one) in
           let F : ℕ → Type 0 = λ i. Stacked (with_limit m l) (set s.times i ts) in
           let G : Net → Type 0 = λ o. Stacked o (set s.times j ts) in
-          subst G (sym put) (subst F place (one_more m l s.times ts s.stacked (omega (arith, s.rows)) put_settled))
+          subst G (sym put) (subst F place (one_more m l s.times ts s.stacked (omega (arith, s.rows, longer_by_one)) put_settled))

@@ -98,7 +98,7 @@ pub record Settling (day : Day) (newest : Limit) (ls : List Limit) (ts ts' : Lis
   pub keeps : AllByRecursion (Keeps (minute ts')) ls
   pub follows : Follows day newest ls ts ts'
 
--- from the minutes of r by all its limits to minutes at rest
-abbrev pub Settled : Relaxation → Result (List ℕ) Clash → Type 0
-Settled r (Ok ts') = Settling r.limits.now.day r.newest (net_of r.limits.now).limits r.times ts'
-Settled r (Err _) = Lost r.limits.now.day r.newest (net_of r.limits.now).limits r.times
+-- from the minutes of r by all its limits to ts'
+abbrev pub Settled : Relaxation → Result Unit Clash → List ℕ → Type 0
+Settled r (Ok _) ts' = Settling r.limits.now.day r.newest (net_of r.limits.now).limits r.times ts'
+Settled r (Err _) ts' = Lost r.limits.now.day r.newest (net_of r.limits.now).limits r.times

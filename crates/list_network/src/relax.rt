@@ -22,9 +22,9 @@ pub(crate) struct Clash;
 /// Minutes that rested until the newest of the limits came, and are raised on its account.
 #[derive(Drop)]
 pub(crate) struct Relaxation<'a> {
-    limits: &'a LimitList,
     newest: Limit,
-    times: [u16; MAX_EVENTS],
+    pub(crate) times: [u16; MAX_EVENTS],
+    limits: &'a LimitList,
     ghost size: { length times ≡ max_events },
     ghost timetable: { OfDay limits.now.day (minute times) },
 }
@@ -89,13 +89,13 @@ impl<'a> Relaxation<'a> {
         Ok(effect)
     }
 
-    /// Relaxes the limits, round after round, until the minutes keep them all: these minutes.
-    pub(crate) fn settle(mut self) -> Result<[u16; MAX_EVENTS], Clash>
-        ensures { Settled self.entry result }
+    /// Relaxes the limits, round after round, until the minutes keep them all.
+    pub(crate) fn settle(&mut self) -> Result<(), Clash>
+        ensures { Settled self.old result self.new.times }
     {
         loop {
             match self.round()? {
-                Effect::Rest => return Ok(self.times),
+                Effect::Rest => return Ok(()),
                 Effect::Raised => {}
             }
         }

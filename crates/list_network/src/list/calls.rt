@@ -32,13 +32,14 @@ impl Network for ListNetwork {
     }
 
     fn push(&mut self, limit: Limit) -> Result<(), Refusal> {
-        let before = self.times[self.limits.len()];
         self.limits.push(limit)?;
-        let Ok(times) = Relaxation::new(&self.limits, limit, before).settle() else {
+        let before = self.times[self.limits.len() - 1];
+        let mut relaxation = Relaxation::new(&self.limits, limit, before);
+        let Ok(()) = relaxation.settle() else {
             self.limits.pop()?;
             return Err(Refusal::Clash);
         };
-        self.times[self.limits.len()] = times;
+        self.times[self.limits.len()] = relaxation.times;
         Ok(())
     }
 

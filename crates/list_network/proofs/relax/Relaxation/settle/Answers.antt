@@ -8,7 +8,7 @@ use Rattle.list_network.proofs.relax.Relaxation.settle.Goals as goal
 
 pub returns-in_err-round : goal.returns-in_err-round
 returns-in_err-round c =
-    let s = c.args.self in
+    let s = c.args.self.now in
     let at = c.loop in
     let lost : Lost s.limits.now.day s.newest (net_of s.limits.now).limits at.self.times =
     as_before s at.self (λ list newest. Lost list.day newest (net_of list).limits at.self.times) at.invariant.same c.in_err-round.ensures.times in
@@ -17,7 +17,7 @@ returns-in_err-round c =
 
 pub returns-in-Rest : goal.returns-in-Rest
 returns-in-Rest c =
-    let s = c.args.self in
+    let s = c.args.self.now in
     let at = c.loop in
     let acted : Acted s.limits.now.day s.newest (net_of s.limits.now).limits at.self.times c.in_ok-round.field-0 c.round.new.self.times =
     as_before s at.self (λ list newest. Acted list.day newest (net_of list).limits at.self.times c.in_ok-round.field-0 c.round.new.self.times)
@@ -30,7 +30,7 @@ returns-in-Rest c =
 
 pub loop-preserved : goal.loop-preserved
 loop-preserved c =
-    let s = c.args.self in
+    let s = c.args.self.now in
     let at = c.loop in
     let same : SameLimits s c.round.new.self = search rules in
     let acted : Acted s.limits.now.day s.newest (net_of s.limits.now).limits at.self.times c.in_ok-round.field-0 c.round.new.self.times =
