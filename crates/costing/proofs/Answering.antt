@@ -27,11 +27,11 @@ module _ (p : Problem) (ms : List ℕ) (t : Timetable p ms) where
         only = λ d m. costs_same way laws (minute ms) (rules_of p) c d k m;
       }
 
-  pub answers_rule : (rs : List Rule) (k : ℕ) → rs ≡ rules_of p
-      → (k < length rs) × AllByRecursion (Satisfies (minute ms)) (take k rs) × HoldsAt (λ r. Unmet (minute ms) (choices r)) rs k → ForbiddenBy p ms k
-  answers_rule rs k e h =
-      let P : List Rule → Type 0 = λ xs. (k < length xs) × AllByRecursion (Satisfies (minute ms)) (take k xs) × HoldsAt (λ r. Unmet (minute ms) (choices r)) xs k in
-      let m : P (rules_of p) = subst P e h in
+  pub answers_rule : (rs : List Rule) (i k : ℕ) → i ≡ k → rs ≡ rules_of p
+      → (i < length rs) × AllByRecursion (Satisfies (minute ms)) (take i rs) × HoldsAt (λ r. Unmet (minute ms) (choices r)) rs i → ForbiddenBy p ms k
+  answers_rule rs i k n e h =
+      let P : ℕ → List Rule → Type 0 = λ j xs. (j < length xs) × AllByRecursion (Satisfies (minute ms)) (take j xs) × HoldsAt (λ r. Unmet (minute ms) (choices r)) xs j in
+      let m : P k (rules_of p) = subst₂ P n e h in
       record {
         timetable = t;
         within = m.0;

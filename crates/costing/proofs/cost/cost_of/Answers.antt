@@ -1,4 +1,4 @@
-use Rattle.std.proofs.Common.{◌≡◌, subst, map, rules}
+use Rattle.std.proofs.Common.{arith, ◌≡◌, subst, map, rules}
 use Rattle.std.proofs.lemmas.List.{take_all}
 use Rattle.problem.specs.Costs.{Least}
 use Rattle.problem.specs.Rules.{rule_of}
@@ -14,7 +14,8 @@ loop-number-preserved g c =
     let T = minute c.args.minutes.now in
     let given : gives c.in_ok-timetable.timetable ≡ T = search rules in
     let least : Least way T (choices (rule_of c.rule-item.result)) c.in-Some.cost = subst (λ m. Least way m (choices (rule_of c.rule-item.result)) c.in-Some.cost) given c.in-Some.ensures in
-    costs_more way T c.rules-rule-items.result.now c.loop-number.number c.rule-item.result c.loop-number.total c.in-Some.cost c.join-total.result c.loop-number-test.true c.rule-item.is c.loop-number.invariant least c.join-total.ensures
+    let joined : c.join-total.result ≡ way.join c.loop-number.total c.in-Some.cost = search rules in
+    costs_more way T c.rules-rule-items.result.now c.loop-number.number c.rule-item.result c.loop-number.total c.in-Some.cost c.join-total.result c.loop-number-test.true c.rule-item.is c.loop-number.invariant least joined
 
 pub returns-in_default : goal.returns-in_default
 returns-in_default g c =
@@ -24,7 +25,7 @@ returns-in_default g c =
     let given : c.in_ok-timetable.timetable.minutes.now ≡ ms = search rules in
     let day : c.in_ok-timetable.timetable.day ≡ p.day = search rules in
     let none : Unmet (minute ms) (choices (rule_of c.rule-item.result)) = subst (λ xs. Unmet (minute xs) (choices (rule_of c.rule-item.result))) given c.in_default.ensures in
-    answers_rule p ms (timetable_of p ms c.in_ok-timetable.timetable day given) (map rule_of c.rules-rule-items.result.now) c.loop-number.number c.rules-rule-items.ensures
+    answers_rule p ms (timetable_of p ms c.in_ok-timetable.timetable day given) (map rule_of c.rules-rule-items.result.now) c.loop-number.number _ (omega arith) c.rules-rule-items.ensures
     (first_unmet way (minute ms) c.rules-rule-items.result.now c.loop-number.number c.rule-item.result c.loop-number.total c.loop-number-test.true c.rule-item.is c.loop-number.invariant none)
 
 pub returns : goal.returns
