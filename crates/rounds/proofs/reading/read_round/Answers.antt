@@ -1,5 +1,6 @@
-use Rattle.std.proofs.Common.{◌≡◌, ◌^◌, ◌<◌, length, vec_items, inl, arith}
+use Rattle.std.proofs.Common.{◌≡◌, ◌^◌, ◌<◌, length, vec_items, inl, arith, rules}
 use Rattle.fields.specs.Fields.{parts, left}
+use Rattle.rounds.specs.Round.{FirstFault}
 use Rattle.rounds.proofs.Loop.{few_parts, none_read}
 use Rattle.rounds.proofs.reading.read_round.Goals as goal
 
@@ -14,4 +15,5 @@ pub returns-in-Err : goal.returns-in-Err
 returns-in-Err c =
     let steps = c.in-Some.ensures.steps in
     let count : c.in-Some.event ≡ length (vec_items c.loop-event.minutes) = cc in
-    none_read c.loop-event.invariant.0 steps.0 c.in-Err.ensures count
+    let fault : FirstFault c.args.line.now c.in-Some.event = none_read c.loop-event.invariant.0 steps.0 c.in-Err.ensures count in
+    search (rules, fault)
