@@ -1,8 +1,8 @@
 -- The shortest distances over a list of limits, and a table of them for each number of limits.
---   Bounds     a distance is as short as a limit asks
---   Shortest   a table has the shortest distances over a list of limits
---   Held       table k has them over the first k limits, for each k up to the count of limits
---   Lengthened   a list of tables has one more, with a limit put on
+--   Bounds       a distance is as short as a limit asks
+--   Shortest     a table has the shortest distances over a list of limits
+--   Held         table k has them over the first k limits, for each k up to the count of limits
+--   Lengthened   a list of tables has one more: the last of them with a limit put on
 use Rattle.std.specs.Prelude.{◌≡◌, ℕ, ◌-◌, ◌<◌, ◌≤◌, List, [], ◌∷◌, ◌++◌, length, take, ◌≤ℤ◌}
 use Rattle.std.specs.List.{All, HoldsAt}
 use Rattle.problem.specs.Timetables.{OfDay, gap}
