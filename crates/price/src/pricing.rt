@@ -18,7 +18,7 @@ pub(crate) enum Price {
 impl fmt::Display for Price {
     fn fmt<W: fmt::Write>(&self, f: &mut fmt::Formatter<W>) -> fmt::Result {
         match self {
-            Price::Cost(Shown { first, second }) => write!(f, "{first},{second}"),
+            Price::Cost(shown) => write!(f, "{shown}"),
             Price::Forbidden { rule } => write!(f, "rule {rule} forbids it"),
         }
     }
