@@ -13,6 +13,7 @@ use Rattle.network.specs.declared.limit_list.LimitList.{LimitList}
 use Rattle.list_network.specs.declared.relax.Relaxation.{Relaxation}
 use Rattle.list_network.specs.declared.relax.Effect.{Effect}
 use Rattle.list_network.specs.declared.relax.Effect.TheVariants.{Rest, Raised}
+use Rattle.list_network.specs.Effects.{joint}
 use Rattle.list_network.specs.Relaxing.{Old, Candidate, Follows, Lost, Resting, Rising, Acted, SameLimits, Settling}
 
 all_left : (P : Limit → Type 0) (ls ks : List Limit) → AllByRecursion P (ls ++ ks) → AllByRecursion P ls
@@ -69,32 +70,28 @@ module _ (day : Day) (newest : Limit) (ls ks : List Limit) where
     follows = λ us T cand low. q.follows us T (for_right us T cand) (s.follows us T (for_left us T cand) low);
   }
 
-  then_lost : (ts ts₁ : List ℕ) (e : Effect) → Acted day newest ls ts e ts₁ → Lost day newest ks ts₁ → Lost day newest (ls ++ ks) ts
+  pub then_lost : (ts ts₁ : List ℕ) (e : Effect) → Acted day newest ls ts e ts₁ → Lost day newest ks ts₁ → Lost day newest (ls ++ ks) ts
   then_lost ts ts₁ Rest s q =
       let F : List ℕ → Type 0 = Lost day newest (ls ++ ks) in
       subst F s.same (λ us T cand. q us T (for_right us T cand))
   then_lost ts ts₁ Raised s q = λ us T cand low. q us T (for_right us T cand) (s.follows us T (for_left us T cand) low)
 
--- what happened, and a later effect
-abbrev pub joint : Effect → Effect → Effect
-joint e Rest = e
-joint e Raised = Raised
+  -- either effect after the other
+  pub then_acted : (ts ts₁ ts₂ : List ℕ) (e e' : Effect) → Acted day newest ls ts e ts₁ → Acted day newest ks ts₁ e' ts₂ → Acted day newest (ls ++ ks) ts (joint e e') ts₂
+  then_acted ts ts₁ ts₂ e Rest s q = then_rest ts ts₁ ts₂ e s q
+  then_acted ts ts₁ ts₂ e Raised s q = then_raised ts ts₁ ts₂ e s q
+
+  -- ls leave no minutes
+  pub lost_first : (ts : List ℕ) → Lost day newest ls ts → Lost day newest (ls ++ ks) ts
+  lost_first ts q = λ us T cand. q us T (for_left us T cand)
 
 -- a round from ts that has relaxed the first i limits, and is at ts₁ now
 module _ (day : Day) (newest : Limit) (ls : List Limit) (i : ℕ) (ts ts₁ : List ℕ) (e : Effect) (g : Acted day newest (take i ls) ts e ts₁) where
   module _ (within : i < length ls) where
-    -- it goes on by the limit at i
-    one_more : (e' : Effect) (ts₂ : List ℕ) → Acted day newest (get_or ls i nowhere ∷ []) ts₁ e' ts₂
-        → Acted day newest (take i ls ++ (get_or ls i nowhere ∷ [])) ts (joint e e') ts₂
-    one_more Rest ts₂ q = then_rest day newest (take i ls) (get_or ls i nowhere ∷ []) ts ts₁ ts₂ e g q
-    one_more Raised ts₂ q = then_raised day newest (take i ls) (get_or ls i nowhere ∷ []) ts ts₁ ts₂ e g q
-
-    pub goes_on : (e' e'' : Effect) (ts₂ : List ℕ) → joint e e' ≡ e'' → Acted day newest (get_or ls i nowhere ∷ []) ts₁ e' ts₂
-        → Acted day newest (take (i + 1) ls) ts e'' ts₂
-    goes_on e' e'' ts₂ is q =
-        let F : List Limit → Type 0 = λ ks. Acted day newest ks ts e'' ts₂ in
-        let G : Effect → Type 0 = λ e. Acted day newest (take i ls ++ (get_or ls i nowhere ∷ [])) ts e ts₂ in
-        subst F (sym (take_more ls i nowhere within)) (subst G is (one_more e' ts₂ q))
+    pub goes_on : (e' : Effect) (ts₂ : List ℕ) → Acted day newest (get_or ls i nowhere ∷ []) ts₁ e' ts₂ → Acted day newest (take (i + 1) ls) ts (joint e e') ts₂
+    goes_on e' ts₂ q =
+        let F : List Limit → Type 0 = λ ks. Acted day newest ks ts (joint e e') ts₂ in
+        subst F (sym (take_more ls i nowhere within)) (then_acted day newest (take i ls) (get_or ls i nowhere ∷ []) ts ts₁ ts₂ e e' g q)
 
     -- the limit at i leaves no minutes
     pub goes_lost : Lost day newest (get_or ls i nowhere ∷ []) ts₁ → Lost day newest ls ts

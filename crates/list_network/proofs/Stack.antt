@@ -1,13 +1,14 @@
 -- The smallest minutes of each beginning of the limits, and how the calls keep them.
-use Rattle.std.proofs.Common.{◌≡◌, ℕ, ◌+◌, ◌-◌, ◌<◌, ◌≤◌, List, [], ◌∷◌, ◌++◌, length, take, replicate, get_or, set, sym, ap, ◌∙◌, subst, refl, inl, inr, ⊎_elim, Err, Ok, arith}
+use Rattle.std.proofs.Common.{◌≡◌, ℕ, ◌+◌, ◌<◌, ◌≤◌, List, [], ◌∷◌, ◌++◌, length, take, replicate, get_or, set, sym, ap, ◌∙◌, subst, refl, inl, inr, ⊎_elim, None, Some, Err, Ok, Result, MatchResult, rules, arith}
+use Rattle.std.specs.Result.{result_err}
 use Rattle.std.specs.List.{AllByRecursion}
 use Rattle.std.proofs.ByRecursion.{All-weaker, All-push}
 use Rattle.std.proofs.lemmas.List.{get_or-set_same, get_or-set_other, get_or-replicate, get_or_past, length-replicate, length_push, take_all, take-append-le}
 use Rattle.std.proofs.lemmas.Bool.{cases_eq, cases_lt}
 use Rattle.problem.specs.Bounds.{max_events}
 use Rattle.problem.specs.Timetables.{minute}
-use Rattle.problem.specs.declared.day.Day.{Day}
-use Rattle.network.specs.Calls.{with_limit}
+use Rattle.problem.specs.declared.refusal.Refusal.{Refusal}
+use Rattle.network.specs.Calls.{refusal_before, with_limit}
 use Rattle.network.specs.Limits.{Keeps, max_limits}
 use Rattle.network.specs.Lists.{net_of}
 use Rattle.network.specs.Nets.{Net, Solves, Unsolvable, Earliest}
@@ -39,13 +40,6 @@ fresh m tss none row k le =
       solves = ((zeros max_events 0, λ i lt. omega (arith, zeros max_events i)), tt);
       lowest = λ T solves i. omega (arith, zeros max_events i);
     }
-
--- two lists that are the same with one more are the same before
-same_before : (xs ys : List Limit) (x y : Limit) → xs ++ (x ∷ []) ≡ ys ++ (y ∷ []) → xs ≡ ys
-same_before xs ys x y e =
-    let n = length xs in
-    let same : length xs ≡ length ys = omega (arith, ap length e, length_push xs x, length_push ys y) in
-    sym (take_all n xs (omega arith)) ∙ (sym (take-append-le n xs (x ∷ []) (omega arith)) ∙ (ap (take n) e ∙ (take-append-le n ys (y ∷ []) (omega arith) ∙ take_all n ys (omega arith))))
 
 -- the limit l is put on m, whose smallest minutes are row
 module _ (m : Net) (l : Limit) (row : List ℕ) (s : Smallest m row) where
@@ -115,46 +109,45 @@ earliest m row s i t e = record {
   lowest = λ T solves. omega (arith, e, s.lowest T solves i);
 }
 
--- two networks that are the same with one limit more are the same before
-pub without_newest : (m m' : Net) (l l' : Limit) → with_limit m l ≡ with_limit m' l' → m ≡ m'
-without_newest m m' l l' e =
-    let F : Day → Net = λ day. record { day = day; limits = m.limits } in
-    let G : List Limit → Net = λ ls. record { day = m'.day; limits = ls } in
-    ap F (ap (λ n. n.day) e) ∙ ap G (same_before m.limits m'.limits l l' (ap (λ n. n.limits) e))
+-- a limit that passes its checks is put on
+pub is_put :
+    (m n : Net) (l : Limit) (answer : Result Unit Refusal) (Q : Refusal → Type 0) → refusal_before m l ≡ None → result_err answer ≡ refusal_before m l
+    → MatchResult answer (λ _. n ≡ with_limit m l) Q → n ≡ with_limit m l
+is_put m n l (Ok _) Q passes refused put = put
+is_put m n l (Err e) Q passes refused put =
+    let none : Some e ≡ None = refused ∙ passes in
+    search rules
 
--- the limit l is put on the network s, which becomes n with k limits, and r begins to relax the newest minutes
+-- the limit l is put on the network s, whose newest minutes r began to relax
 module _
-    (s : ListNetwork) (l : Limit) (n : Net) (put : n ≡ with_limit (modelled s) l) (k : ℕ) (count : k ≡ length n.limits)
-    (r : Relaxation) (same : net_of r.limits.now ≡ n) (newest_is : r.newest ≡ l) (starts : r.times ≡ get_or s.times (k - 1) [])
+    (s : ListNetwork) (l : Limit) (r : Relaxation) (same : net_of r.limits.now ≡ modelled s) (newest_is : r.newest ≡ l)
+    (k : ℕ) (count : k ≡ length (modelled s).limits) (starts : r.times ≡ get_or s.times k [])
   where
     abbrev row : List ℕ
     row = get_or s.times (length (modelled s).limits) []
 
-    longer_by_one : k ≡ length (modelled s).limits + 1
-    longer_by_one = count ∙ (ap (λ o. length o.limits) put ∙ length_push (modelled s).limits l)
-
-    at_start : (P : Net → Limit → List ℕ → Type 0) → P (net_of r.limits.now) r.newest r.times → P (with_limit (modelled s) l) l row
+    at_start : (P : Net → Limit → List ℕ → Type 0) → P (net_of r.limits.now) r.newest r.times → P (modelled s) l row
     at_start P h =
         let F : Net → Type 0 = λ m. P m l row in
         let G : Limit → Type 0 = λ j. P (net_of r.limits.now) j row in
-        let place : k - 1 ≡ length (modelled s).limits = omega (arith, longer_by_one) in
-        let row_is : r.times ≡ row = starts ∙ ap (λ j. get_or s.times j []) place in
-        subst F (same ∙ put) (subst G newest_is (subst (P (net_of r.limits.now) r.newest) row_is h))
+        let row_is : r.times ≡ row = starts ∙ ap (λ j. get_or s.times j []) count in
+        subst F same (subst G newest_is (subst (P (net_of r.limits.now) r.newest) row_is h))
 
     pub put_clashes : (ts : List ℕ) → Settled r (Err (record {})) ts → Unsolvable (with_limit (modelled s) l)
-    put_clashes ts h = clashes (modelled s) l row (newest s) (at_start (λ m l row. Lost m.day l m.limits row) h)
+    put_clashes ts h = clashes (modelled s) l row (newest s) (at_start (λ m l row. Lost m.day l (m.limits ++ (l ∷ [])) row) h)
 
     module _ (ts : List ℕ) (h : Settled r (Ok tt) ts) where
       put_settled : Smallest (with_limit (modelled s) l) ts
-      put_settled = settled (modelled s) l row (newest s) ts (at_start (λ m l row. Settling m.day l m.limits row ts) h)
+      put_settled = settled (modelled s) l row (newest s) ts (at_start (λ m l row. Settling m.day l (m.limits ++ (l ∷ [])) row ts) h)
 
-      pub put_smallest : Smallest n ts
-      put_smallest = let F : Net → Type 0 = λ m. Smallest m ts in subst F (sym put) put_settled
+      module _ (n : Net) (put : n ≡ with_limit (modelled s) l) where
+        pub put_smallest : Smallest n ts
+        put_smallest = let F : Net → Type 0 = λ m. Smallest m ts in subst F (sym put) put_settled
 
-      pub put_stacked : (j : ℕ) → j ≡ length n.limits → length n.limits ≤ max_limits → Stacked n (set s.times j ts)
-      put_stacked j is few =
-          let m = modelled s in
-          let place : length m.limits + 1 ≡ j = omega (arith, longer_by_one) in
-          let F : ℕ → Type 0 = λ i. Stacked (with_limit m l) (set s.times i ts) in
-          let G : Net → Type 0 = λ o. Stacked o (set s.times j ts) in
-          subst G (sym put) (subst F place (one_more m l s.times ts s.stacked (omega (arith, s.rows, longer_by_one)) put_settled))
+        pub put_stacked : (j : ℕ) → j ≡ length (modelled s).limits → length n.limits ≤ max_limits → Stacked n (set s.times (j + 1) ts)
+        put_stacked j is few =
+            let m = modelled s in
+            let longer : length n.limits ≡ length m.limits + 1 = ap (λ o. length o.limits) put ∙ length_push m.limits l in
+            let F : ℕ → Type 0 = λ i. Stacked (with_limit m l) (set s.times (i + 1) ts) in
+            let G : Net → Type 0 = λ o. Stacked o (set s.times (j + 1) ts) in
+            subst G (sym put) (subst F (sym is) (one_more m l s.times ts s.stacked (omega (arith, s.rows)) put_settled))

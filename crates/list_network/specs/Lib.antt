@@ -1,3 +1,4 @@
+pub mod Effects
 pub mod Relaxing
 pub mod Smallest
 pub mod Model

@@ -11,10 +11,11 @@
 --   Rising      minutes are raised
 --   Acted       minutes stay or are raised, as the effect says
 --   SameLimits  a relaxation keeps its limits
+--   all_limits  the limits of a relaxation, the newest last
 --   Relaxed     what relaxing limits answers, and what it leaves
 --   Settling    minutes have come to rest
 --   Settled     what settling minutes answers, and what it leaves
-use Rattle.std.specs.Prelude.{◌≡◌, ℕ, ◌+◌, ◌-◌, ◌<◌, ◌≤◌, ◌⊎◌, List, [], ◌∷◌, length, ℤ, pos, ◌-ℤ◌, ◌≤ℤ◌, Ok, Err, Result}
+use Rattle.std.specs.Prelude.{◌≡◌, ℕ, ◌+◌, ◌-◌, ◌<◌, ◌≤◌, ◌⊎◌, List, [], ◌∷◌, ◌++◌, length, ℤ, pos, ◌-ℤ◌, ◌≤ℤ◌, Ok, Err, Result}
 use Rattle.std.specs.List.{AllByRecursion}
 use Rattle.problem.specs.Bounds.{max_events}
 use Rattle.problem.specs.Timetables.{OfDay, minute, gap}
@@ -86,6 +87,10 @@ abbrev pub Acted : Day → Limit → List Limit → List ℕ → Effect → List
 Acted day newest ls ts Rest ts' = Resting ls ts ts'
 Acted day newest ls ts Raised ts' = Rising day newest ls ts ts'
 
+-- the limits of r, and the newest
+abbrev pub all_limits : Relaxation → List Limit
+all_limits r = (net_of r.limits.now).limits ++ (r.newest ∷ [])
+
 -- from the minutes of r by the limits ls to ts'
 abbrev pub Relaxed : Relaxation → List Limit → Result Effect Clash → List ℕ → Type 0
 Relaxed r ls (Ok effect) ts' = Acted r.limits.now.day r.newest ls r.times effect ts'
@@ -100,5 +105,5 @@ pub record Settling (day : Day) (newest : Limit) (ls : List Limit) (ts ts' : Lis
 
 -- from the minutes of r by all its limits to ts'
 abbrev pub Settled : Relaxation → Result Unit Clash → List ℕ → Type 0
-Settled r (Ok _) ts' = Settling r.limits.now.day r.newest (net_of r.limits.now).limits r.times ts'
-Settled r (Err _) ts' = Lost r.limits.now.day r.newest (net_of r.limits.now).limits r.times
+Settled r (Ok _) ts' = Settling r.limits.now.day r.newest (all_limits r) r.times ts'
+Settled r (Err _) ts' = Lost r.limits.now.day r.newest (all_limits r) r.times

@@ -2,6 +2,7 @@
 ghost use Rattle.std.specs.Prelude.{◌≡◌, length};
 ghost use Rattle.problem.specs.Bounds.{max_events};
 ghost use Rattle.problem.specs.Timetables.{OfDay, minute};
+ghost use Rattle.network.specs.Limits.{Lawful};
 
 use network::{Limit, LimitList};
 use problem::MAX_EVENTS;
@@ -15,25 +16,39 @@ enum Effect {
     Raised,
 }
 
+impl Effect {
+    ghost use Rattle.std.specs.Prelude.{◌≡◌};
+    ghost use Rattle.list_network.specs.Effects.{joint};
+
+    /// This effect and a later one together.
+    fn then(self, later: Effect) -> Effect
+        ensures { result ≡ joint self later }
+    {
+        match later {
+            Effect::Rest => self,
+            Effect::Raised => Effect::Raised,
+        }
+    }
+}
+
 /// No timetable of the day keeps all limits.
 #[derive(Clone, Copy)]
 pub(crate) struct Clash;
 
-/// Minutes that rested until the newest of the limits came, and are raised on its account.
+/// Minutes that rested under the limits until a newest one came, and are raised on its account.
 #[derive(Drop)]
 pub(crate) struct Relaxation<'a> {
+    limits: &'a LimitList,
     newest: Limit,
     pub(crate) times: [u16; MAX_EVENTS],
-    limits: &'a LimitList,
+    ghost lawful: { Lawful limits.now.day newest },
     ghost size: { length times ≡ max_events },
     ghost timetable: { OfDay limits.now.day (minute times) },
 }
 
 impl<'a> Relaxation<'a> {
-    ghost use Rattle.std.specs.Prelude.{[], ◌∷◌};
-    ghost use Rattle.network.specs.Limits.{Lawful};
-    ghost use Rattle.network.specs.Lists.{net_of};
-    ghost use Rattle.list_network.specs.Relaxing.{SameLimits, Relaxed, Settled};
+    ghost use Rattle.std.specs.Prelude.{◌≡◌, [], ◌∷◌};
+    ghost use Rattle.list_network.specs.Relaxing.{SameLimits, Relaxed, Settled, all_limits};
 
     /// The minutes, before any limit has raised them.
     pub(crate) fn new(
@@ -41,6 +56,7 @@ impl<'a> Relaxation<'a> {
         newest: Limit,
         times: [u16; MAX_EVENTS],
     ) -> Relaxation<'a>
+        requires lawful { Lawful limits.now.day newest }
         requires size { length times ≡ max_events }
         requires timetable { OfDay limits.now.day (minute times) }
         ensures limits { result.limits.now ≡ limits.now }
@@ -74,19 +90,16 @@ impl<'a> Relaxation<'a> {
         Ok(Effect::Raised)
     }
 
-    /// Relaxes each limit once.
+    /// Relaxes each limit once, the newest last.
     fn round(&mut self) -> Result<Effect, Clash>
         ensures same { SameLimits self.old self.new }
-        ensures times { Relaxed self.old (net_of self.old.limits.now).limits result self.new.times }
+        ensures times { Relaxed self.old (all_limits self.old) result self.new.times }
     {
         let mut effect = Effect::Rest;
         for limit in self.limits.as_slice() {
-            match self.relax(*limit)? {
-                Effect::Rest => {}
-                Effect::Raised => effect = Effect::Raised,
-            }
+            effect = effect.then(self.relax(*limit)?);
         }
-        Ok(effect)
+        Ok(effect.then(self.relax(self.newest)?))
     }
 
     /// Relaxes the limits, round after round, until the minutes keep them all.

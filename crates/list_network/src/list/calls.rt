@@ -5,7 +5,7 @@ ghost use Rattle.list_network.specs.Held;
 
 use crate::list::ListNetwork;
 use crate::relax::Relaxation;
-use network::{Limit, LimitList, MAX_LIMITS, Network};
+use network::{Limit, LimitList, MAX_LIMITS, Network, check_limit};
 use problem::{MAX_EVENTS, Refusal};
 
 impl ListNetwork {
@@ -32,14 +32,14 @@ impl Network for ListNetwork {
     }
 
     fn push(&mut self, limit: Limit) -> Result<(), Refusal> {
-        self.limits.push(limit)?;
-        let before = self.times[self.limits.len() - 1];
+        check_limit(self.limits.day(), self.limits.len(), limit)?;
+        let before = self.times[self.limits.len()];
         let mut relaxation = Relaxation::new(&self.limits, limit, before);
         let Ok(()) = relaxation.settle() else {
-            self.limits.pop()?;
             return Err(Refusal::Clash);
         };
-        self.times[self.limits.len()] = relaxation.times;
+        self.times[self.limits.len() + 1] = relaxation.times;
+        self.limits.push(limit)?;
         Ok(())
     }
 

@@ -1,10 +1,20 @@
 use Rattle.std.proofs.Common.{◌≡◌, ◌<◌, length, pos, ◌<ℤ◌, refl, inl, inr, arith}
 use Rattle.std.proofs.lemmas.Int.{ints}
+use Rattle.problem.specs.Timetables.{minute}
+use Rattle.network.specs.Limits.{Keeps}
 use Rattle.network.proofs.Taken.{lawful_y}
 use Rattle.list_network.specs.Relaxing.{least}
 use Rattle.list_network.proofs.Relaxing.{small, raised, stuck}
 use Rattle.list_network.proofs.relax.Relaxation.relax.Goals as goal
 use Rattle.list_network.proofs.relax.Relaxation.relax.Goals.{then-limit-eq0-via-then-limit-eq0, then-limit-eq0-via-else-limit-eq0+then-limit-self, then-limit-eq0-via-else-limit-eq0+else-limit-self+then-least-horizon}
+
+pub returns-then-least-self-clause-times : goal.returns-then-least-self-clause-times
+returns-then-least-self-clause-times c =
+    let s = c.args.self.now in
+    let limit = c.args.limit in
+    let near = small s.limits.now.day limit s.times c.requires s.timetable in
+    let keeps : Keeps (minute s.times) limit = omega (arith, ints) in
+    record { same = refl; keeps = (keeps, tt) }
 
 pub returns-then-limit-eq0-clause-times : goal.returns-then-limit-eq0-clause-times
 returns-then-limit-eq0-clause-times c =

@@ -1,38 +1,47 @@
-use Rattle.std.proofs.Common.{◌≡◌, ◌∙◌, set, sym, ap, refl, inr}
+use Rattle.std.proofs.Common.{◌≡◌, ◌∙◌, ℕ, ◌+◌, None, length, set, sym, ap, refl, inr}
 use Rattle.std.proofs.lemmas.List.{length-set}
+use Rattle.problem.specs.Checks.{first_refusal}
 use Rattle.problem.specs.Timetables.{minute}
+use Rattle.problem.specs.declared.day.Day.{Day}
 use Rattle.problem.specs.declared.refusal.Refusal.TheVariants.{Clash}
-use Rattle.network.specs.Calls.{Clashing, with_limit}
+use Rattle.network.specs.Calls.{Clashing, refusal_before, with_limit}
+use Rattle.network.specs.Limits.{limit_checks}
 use Rattle.network.specs.Lists.{net_of}
+use Rattle.network.specs.declared.limit.Limit.{Limit}
+use Rattle.list_network.specs.declared.list.ListNetwork.{ListNetwork}
 use Rattle.list_network.specs.Model.{modelled}
 use Rattle.list_network.specs.Smallest.{Smallest, Stacked}
-use Rattle.list_network.proofs.Stack.{put_clashes, put_smallest, put_stacked, without_newest}
+use Rattle.list_network.proofs.Stack.{is_put, put_clashes, put_smallest, put_stacked}
 use Rattle.list_network.proofs.list.calls.ListNetworkNetwork.push.Goals as goal
+
+-- the checks that the limit passed are those of the network
+checked : (s : ListNetwork) (day : Day) (count : ℕ) (l : Limit) → day ≡ s.limits.day → count ≡ length (modelled s).limits
+    → None ≡ first_refusal (limit_checks day count l) → refusal_before (modelled s) l ≡ None
+checked s day count l same many passes =
+    sym (passes ∙ (ap (λ d. first_refusal (limit_checks d count l)) same ∙ ap (λ k. first_refusal (limit_checks s.limits.day k l)) many))
 
 pub returns-in_default : goal.returns-in_default
 returns-in_default c =
-    let m = modelled c.args.self.now in
+    let s = c.args.self.now in
     let l = c.args.limit in
     let begun = c.new-relaxation.ensures in
-    let put : net_of c.push.new.self ≡ with_limit m l = c.in_ok-push.ensures.cases in
-    let clashing : Clashing m l Clash = record {
-      passes = sym c.in_ok-push.ensures.refused;
+    let clashing : Clashing (modelled s) l Clash = record {
+      passes = checked s _ _ l c.day.ensures c.len.ensures c.in_ok-check_limit.ensures;
       clash = refl;
-      unsolvable = put_clashes c.args.self.now l _ put _ c.len.ensures c.new-relaxation.result (ap net_of begun.limits) begun.newest begun.times c.settle.new.self.times c.in_default.ensures;
+      unsolvable = put_clashes s l c.new-relaxation.result (ap net_of begun.limits) begun.newest _ c.len-2.ensures begun.times c.settle.new.self.times c.in_default.ensures;
     } in
-    let off = c.in_ok-pop.ensures in
-    let stays : net_of c.pop.new.self ≡ m = without_newest _ m off.0 l (sym off.1 ∙ put) in
-    (inr clashing, stays)
+    (inr clashing, refl)
 
-pub invariant_of-self-2 : goal.invariant_of-self-2
-invariant_of-self-2 c =
+pub invariant_of-self : goal.invariant_of-self
+invariant_of-self c =
     let s = c.args.self.now in
     let l = c.args.limit in
     let begun = c.new-relaxation.ensures in
     let times = c.settle.new.self.times in
-    let put : net_of c.push.new.self ≡ with_limit (modelled s) l = c.in_ok-push.ensures.cases in
-    let stacked : Stacked (net_of c.push.new.self) (set s.times c.len-2.result times) =
-    put_stacked s l _ put _ c.len.ensures c.new-relaxation.result (ap net_of begun.limits) begun.newest begun.times times c.in-Ok.ensures _ c.len-2.ensures c.push.new.self.few in
+    let passes = checked s _ _ l c.day.ensures c.len.ensures c.in_ok-check_limit.ensures in
+    let put : net_of c.push.new.self ≡ with_limit (modelled s) l = is_put (modelled s) _ l _ _ passes c.push.ensures.refused c.push.ensures.cases in
+    let stacked : Stacked (net_of c.push.new.self) (set s.times (c.len-3.result + 1) times) =
+    put_stacked s l c.new-relaxation.result (ap net_of begun.limits) begun.newest _ c.len-2.ensures begun.times times c.in-Ok.ensures _ put _ c.len-3.ensures c.push.new.self.few in
     record { rows = simp length-set s.rows; stacked = search stacked }
 
 pub returns : goal.returns
@@ -43,5 +52,5 @@ returns c =
     let times = c.settle.new.self.times in
     let put : net_of c.push.new.self ≡ with_limit (modelled s) l = c.in_ok-push.ensures.cases in
     let smallest : Smallest (net_of c.push.new.self) times =
-    put_smallest s l _ put _ c.len.ensures c.new-relaxation.result (ap net_of begun.limits) begun.newest begun.times times c.in-Ok.ensures in
+    put_smallest s l c.new-relaxation.result (ap net_of begun.limits) begun.newest _ c.len-2.ensures begun.times times c.in-Ok.ensures _ put in
     record { passes = sym c.in_ok-push.ensures.refused; becomes = put; solvable = (minute times, smallest.solves) }
