@@ -16,11 +16,12 @@ use Rattle.list_network.specs.declared.relax.Effect.TheVariants.{Rest, Raised}
 use Rattle.list_network.specs.Effects.{joint}
 use Rattle.list_network.specs.Relaxing.{Old, Candidate, Follows, Lost, Resting, Rising, Acted, SameLimits, Settling}
 
-all_left : (P : Limit → Type 0) (ls ks : List Limit) → AllByRecursion P (ls ++ ks) → AllByRecursion P ls
+-- what holds of each of a list holds of each of its parts
+pub all_left : (P : Limit → Type 0) (ls ks : List Limit) → AllByRecursion P (ls ++ ks) → AllByRecursion P ls
 all_left P [] ks h = tt
 all_left P (l ∷ ls) ks h = (h.0, all_left P ls ks h.1)
 
-all_right : (P : Limit → Type 0) (ls ks : List Limit) → AllByRecursion P (ls ++ ks) → AllByRecursion P ks
+pub all_right : (P : Limit → Type 0) (ls ks : List Limit) → AllByRecursion P (ls ++ ks) → AllByRecursion P ks
 all_right P [] ks h = h
 all_right P (l ∷ ls) ks h = all_right P ls ks h.1
 

@@ -1,7 +1,6 @@
 -- The smallest minutes of each beginning of the limits, and how the calls keep them.
 use Rattle.std.proofs.Common.{◌≡◌, ℕ, ◌+◌, ◌<◌, ◌≤◌, List, [], ◌∷◌, ◌++◌, length, take, replicate, get_or, set, sym, ap, ◌∙◌, subst, refl, inl, inr, ⊎_elim, None, Some, Err, Ok, Result, MatchResult, rules, arith}
 use Rattle.std.specs.Result.{result_err}
-use Rattle.std.specs.List.{AllByRecursion}
 use Rattle.std.proofs.ByRecursion.{All-weaker, All-push}
 use Rattle.std.proofs.lemmas.List.{get_or-set_same, get_or-set_other, get_or-replicate, get_or_past, length-replicate, length_push, take_all, take-append-le}
 use Rattle.std.proofs.lemmas.Bool.{cases_eq, cases_lt}
@@ -16,6 +15,7 @@ use Rattle.network.specs.declared.limit.Limit.{Limit}
 use Rattle.list_network.specs.Relaxing.{Old, Candidate, Below, Lost, Settling, Settled}
 use Rattle.list_network.specs.Held.{newest}
 use Rattle.list_network.specs.Model.{modelled}
+use Rattle.list_network.proofs.Rounds.{all_left, all_right}
 use Rattle.list_network.specs.Smallest.{Smallest, Stacked, beginning}
 use Rattle.list_network.specs.declared.list.ListNetwork.{ListNetwork}
 use Rattle.list_network.specs.declared.relax.Relaxation.{Relaxation}
@@ -50,23 +50,15 @@ module _ (m : Net) (l : Limit) (row : List ℕ) (s : Smallest m row) where
   candidate : (T : ℕ → ℕ) → Solves (with_limit m l) T → Candidate m.day l longer row T
   candidate T t = record {
     timetable = t.0;
-    keeps_newest = newest_kept (Keeps T) m.limits t.1;
+    keeps_newest = (all_right (Keeps T) m.limits (l ∷ []) t.1).0;
     keeps = t.1;
     old = All-push (Old row l) m.limits l (All-weaker (Keeps (minute row)) (Old row l) (λ k h. inl h) m.limits s.solves.1) (inr refl);
   }
-    where
-      newest_kept : (P : Limit → Type 0) (ls : List Limit) → AllByRecursion P (ls ++ (l ∷ [])) → P l
-      newest_kept P [] h = h.0
-      newest_kept P (k ∷ ls) h = newest_kept P ls h.1
 
   starts_below : (T : ℕ → ℕ) → Solves (with_limit m l) T → Below l row T row
   starts_below T t i =
-      let low = s.lowest T (t.0, older_kept (Keeps T) m.limits t.1) i in
+      let low = s.lowest T (t.0, all_left (Keeps T) m.limits (l ∷ []) t.1) i in
       (omega arith, low, λ lt. absurd (omega arith))
-    where
-      older_kept : (P : Limit → Type 0) (ls : List Limit) → AllByRecursion P (ls ++ (l ∷ [])) → AllByRecursion P ls
-      older_kept P [] h = tt
-      older_kept P (k ∷ ls) h = (h.0, older_kept P ls h.1)
 
   -- no minutes left: no timetable
   pub clashes : Lost m.day l longer row → Unsolvable (with_limit m l)

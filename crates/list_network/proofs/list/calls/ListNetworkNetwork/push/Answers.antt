@@ -4,7 +4,7 @@ use Rattle.problem.specs.Checks.{first_refusal}
 use Rattle.problem.specs.Timetables.{minute}
 use Rattle.problem.specs.declared.day.Day.{Day}
 use Rattle.problem.specs.declared.refusal.Refusal.TheVariants.{Clash}
-use Rattle.network.specs.Calls.{Clashing, refusal_before, with_limit}
+use Rattle.network.specs.Calls.{Clashing, Granted, refusal_before, with_limit}
 use Rattle.network.specs.Limits.{limit_checks}
 use Rattle.network.specs.Lists.{net_of}
 use Rattle.network.specs.declared.limit.Limit.{Limit}
@@ -53,4 +53,6 @@ returns c =
     let put : net_of c.push.new.self ≡ with_limit (modelled s) l = c.in_ok-push.ensures.cases in
     let smallest : Smallest (net_of c.push.new.self) times =
     put_smallest s l c.new-relaxation.result (ap net_of begun.limits) begun.newest _ c.len-2.ensures begun.times times c.in-Ok.ensures _ put in
-    record { passes = sym c.in_ok-push.ensures.refused; becomes = put; solvable = (minute times, smallest.solves) }
+    let granted : Granted (modelled s) l (net_of c.push.new.self) =
+    record { passes = sym c.in_ok-push.ensures.refused; becomes = put; solvable = (minute times, smallest.solves) } in
+    search granted
