@@ -77,12 +77,12 @@ module _ (rules : List Rule) (ns : List ℕ) (i : ℕ) (placed : selects rules n
   more = ap (λ k. given_bits rules (take k ns)) (add-one i) ∙ bits_suc rules ns i placed l
 
   -- rule i is given up
-  pub bits_set : (o : Option Disjunct) → o ≡ as_option (get_or (picked rules ns) i no_choice) → is_some o ≡ false → i < 32 → bit_or w ((1 * 2 ^ i) % 2 ^ 32) ≡ given_bits rules (take (i + 1) ns)
-  bits_set o read e few =
+  pub bits_set : (o : Option Disjunct) → o ≡ as_option (get_or (picked rules ns) i no_choice) → is_some o ≡ false → i < 32 → (v : ℕ) → v ≡ bit_or w ((1 * 2 ^ i) % 2 ^ 32) → v ≡ given_bits rules (take (i + 1) ns)
+  bits_set o read e few v new =
       let one : bit rules ns i ≡ 1 = ap (λ b. cond (not b) 1 0) (ap is_some (sym read) ∙ e) in
       let below : w < 2 ^ i = subst (λ x. x < 2 ^ i) (sym was) (bits_below rules ns i) in
       let p : 2 ^ i * bit rules ns i ≡ 2 ^ i = ap (λ x. 2 ^ i * x) one ∙ mul-one (2 ^ i) in
-      or_above i w few below ∙ (let q = more in omega arith)
+      new ∙ or_above i w few below ∙ (let q = more in omega arith)
 
   -- it is not
   pub bits_clear : (o : Option Disjunct) → o ≡ as_option (get_or (picked rules ns) i no_choice) → is_some o ≡ true → w ≡ given_bits rules (take (i + 1) ns)

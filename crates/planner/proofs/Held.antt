@@ -10,6 +10,7 @@ use Rattle.problem.specs.declared.refusal.Refusal.{Refusal}
 use Rattle.search.specs.Outcomes.{TellsWord, Tells, kept_price, given_word, given_bits}
 use Rattle.search.specs.Searches.{State, Start}
 use Rattle.search.specs.Selections.{picked, price}
+use Rattle.search.specs.Tests.{before}
 use Rattle.search.specs.declared.word.Word.{Word}
 use Rattle.search.proofs.Testing.{every_chosen, selects_selection}
 use Rattle.planner.specs.Advancing.{passed}
@@ -24,19 +25,16 @@ use Rattle.planner.proofs.Stepping.{before_self}
 
 -- nothing is settled yet, and nothing kept
 module _ (day : Day) (rules : List Rule) (some : SomeChoice rules) (first : Choices) (zeros : first.items ≡ replicate (length rules) 0) where
-  abbrev fresh : Progress
-  fresh = record { position = Some first; plan = None }
-
-  pub fresh_sound : SoundProgress day rules fresh
-  fresh_sound = record {
+  pub fresh_sound : (p : Progress) → p.position ≡ Some first → p.plan ≡ None → SoundProgress day rules p
+  fresh_sound p start none = record {
     placed = λ position e. (let same : position ≡ first = cc in rw (same, zeros) (selects_first rules some));
-    kept = λ plan e. absurd (never plan None refl e);
+    kept = λ plan e. absurd (never plan p.plan none e);
   }
 
-  pub fresh_start : {C : Type 0} (way : Way C) → Start way day rules (state_of fresh)
-  fresh_start way = record {
-    unsettled = λ ns r. rw zeros (before_first ns (length rules));
-    no_plan = refl;
+  pub fresh_start : {C : Type 0} (way : Way C) (s : State) → ((ns : List ℕ) → s.settled ns ≡ before ns first.items) → s.kept ≡ None → Start way day rules s
+  fresh_start way s start none = record {
+    unsettled = λ ns r. start ns ∙ rw zeros (before_first ns (length rules));
+    no_plan = none;
   }
 
 -- what is read at a place that is there

@@ -79,11 +79,6 @@ put_one m m₁ m₂ m₃ l k e r h room g p q =
     let off : Without m₂ m.limits m₃ = pop_newest m₂ m₃ r m.limits l (limits_of (c.1 ∙ one)) q in
     (none, off ∙ (λ i. record { day = (day_of (c.1 ∙ one)) i; limits = m.limits }))
 
--- both limits are put on
-pub put_both : (m m₁ m₂ : Net) (l k : Limit) → Granted m l m₁ → Granted m₁ k m₂ → Put m (l ∷ (k ∷ [])) (Ok tt) m₂
-put_both m m₁ m₂ l k g h =
-    h.becomes ∙ ap (λ x. with_limit x k) g.becomes ∙ (λ i. record { day = m.day; limits = append_assoc m.limits (l ∷ []) (k ∷ []) i })
-
 -- what a refused and a granted call say
 pub refused : (P Q : Type 0) (r : Result Unit Refusal) → true ≡ is_err r → MatchResult r (λ _. P) (λ _. Q) → Q
 refused P Q (Ok u) e h = absurd (false≢true (sym e))
@@ -214,7 +209,3 @@ off_both m m₁ m₂ (option d) o r r₁ e t p q ls same =
     let two : Without m₁ ls m₂ = pop_newest m₁ m₂ r₁ ls l (limits_of one) q in
     two ∙ (λ i. record { day = day_of one i; limits = ls })
 off_both m m₁ m₂ (give_up x) o r r₁ e t p q ls same = absurd (false≢true (ap is_some (sym e) ∙ sym t))
-
-pub off_none : (m : Net) (ch : Choice) (o : Option Disjunct) → o ≡ as_option ch → false ≡ is_some o → (ls : List Limit) → m.limits ≡ ls ++ choice_limits ch → Without m ls m
-off_none m (option d) o e t ls same = absurd (false≢true (t ∙ ap is_some e))
-off_none m (give_up x) o e t ls same = λ i. record { day = m.day; limits = (same ∙ append-nil ls) i }

@@ -1,23 +1,17 @@
 -- Raising one choice: where, and what the choices then are.
-use Rattle.std.proofs.Common.{◌≡◌, ℕ, zero, suc, ◌+◌, ◌-◌, ◌<◌, ◌≤◌, true, List, [], ◌∷◌, ◌++◌, length, get_or, take, drop, set, replicate, Some, None, refl, sym, ap, ◌∙◌, subst, ap₂, inl, inr, le_of_suc-le-suc, add-one, arith}
+use Rattle.std.proofs.Common.{◌≡◌, ℕ, zero, suc, ◌+◌, ◌-◌, ◌<◌, ◌≤◌, true, List, [], ◌∷◌, ◌++◌, length, get_or, take, drop, set, replicate, Some, None, refl, sym, ap, ◌∙◌, subst, ap₂, le_of_suc-le-suc, add-one, arith}
 use Rattle.std.proofs.lemmas.List.{append_assoc, append-nil, drop_all, length-drop, length-take, take_more_set, length-set}
-use Rattle.std.proofs.lemmas.Bool.{cases_eq}
 use borrow.Rule.Slice.PartMut.{put_mid, mid_of}
 use Rattle.problem.specs.Rules.{Rule}
 use Rattle.problem.specs.declared.day.Day.{Day}
 use Rattle.network.specs.Nets.{Net}
 use Rattle.search.specs.Tests.{selects, before}
-use Rattle.planner.specs.Advancing.{LastFrom, Raisable, raised, Advanced}
-use Rattle.planner.specs.Choosing.{width_at, Choices}
+use Rattle.planner.specs.Advancing.{Raisable, raised, Advanced}
+use Rattle.planner.specs.Choosing.{Choices}
 use Rattle.planner.specs.Loading.{Loaded}
 use Rattle.planner.proofs.Choosing.{selects_length}
 use Rattle.planner.proofs.Loadings.{never, loaded_shared}
 use Rattle.planner.proofs.Order.{SomeChoice, all_ahead, raised_before, selects_raised}
-
--- one place more is the last of its rule
-pub last_more : (rules : List Rule) (ns : List ℕ) (i j : ℕ) → width_at rules i ≤ get_or ns i 0 + 1 → LastFrom rules ns (i + 1) j → LastFrom rules ns i j
-last_more rules ns i j here later k l m =
-    elim (cases_eq k i) [ inl e ↦ subst (λ n. width_at rules n ≤ get_or ns n 0 + 1) (sym e) here | inr n ↦ later k (omega arith) m ]
 
 raised_parts : (ns : List ℕ) (i : ℕ) → i < length ns → take i ns ++ (get_or ns i 0 + 1) ∷ replicate (length ns - (i + 1)) 0 ≡ raised i ns
 raised_parts [] i l = absurd (omega arith)
@@ -27,16 +21,16 @@ raised_parts (n ∷ ns) (suc i) l =
     ap (λ k. n ∷ (take i ns ++ (get_or ns i 0 + 1) ∷ replicate k 0)) e ∙ ap (λ t. n ∷ t) (raised_parts ns i (omega arith))
 
 -- choice i is raised, and those behind it are filled with first choices
-pub raised_filled : (ns zs : List ℕ) (i k : ℕ) → i < length ns → k ≡ length ns - (i + 1) → zs ≡ replicate (length (mid_of (i + 1) k (set ns i (get_or ns i 0 + 1)))) 0
-    → put_mid (i + 1) k (set ns i (get_or ns i 0 + 1)) zs ≡ raised i ns
-raised_filled ns zs i k l e z =
+pub raised_filled : (ns xs zs : List ℕ) (i k : ℕ) → i < length ns → xs ≡ set ns i (get_or ns i 0 + 1) → k ≡ length xs - (i + 1) → zs ≡ replicate (length (mid_of (i + 1) k xs)) 0
+    → put_mid (i + 1) k xs zs ≡ raised i ns
+raised_filled ns xs zs i k l w e z =
     let v = get_or ns i 0 + 1 in
-    let n = length-set ns i v in
-    let a = length-drop (i + 1) (set ns i v) in
-    let past : drop k (drop (i + 1) (set ns i v)) ≡ [] = drop_all k (drop (i + 1) (set ns i v)) (omega arith) in
-    let m : length (mid_of (i + 1) k (set ns i v)) ≡ length ns - (i + 1) = (let t = length-take k (drop (i + 1) (set ns i v)) in omega arith) in
-    ap₂ (λ front back. front ++ (zs ++ back)) (take_more_set ns i v l) past ∙ ap (λ t. (take i ns ++ v ∷ []) ++ t) (append-nil zs ∙ z)
-    ∙ append_assoc (take i ns) (v ∷ []) (replicate (length (mid_of (i + 1) k (set ns i v))) 0) ∙ ap (λ j. take i ns ++ v ∷ replicate j 0) m ∙ raised_parts ns i l
+    let n : length xs ≡ length ns = ap length w ∙ length-set ns i v in
+    let a = length-drop (i + 1) xs in
+    let past : drop k (drop (i + 1) xs) ≡ [] = drop_all k (drop (i + 1) xs) (omega arith) in
+    let m : length (mid_of (i + 1) k xs) ≡ length ns - (i + 1) = (let t = length-take k (drop (i + 1) xs) in omega arith) in
+    ap₂ (λ front back. front ++ (zs ++ back)) (ap (take (i + 1)) w ∙ take_more_set ns i v l) past ∙ ap (λ t. (take i ns ++ v ∷ []) ++ t) (append-nil zs ∙ z)
+    ∙ append_assoc (take i ns) (v ∷ []) (replicate (length (mid_of (i + 1) k xs)) 0) ∙ ap (λ j. take i ns ++ v ∷ replicate j 0) m ∙ raised_parts ns i l
 
 -- the choices before place i stay
 pub raised_shares : (ns : List ℕ) (i j : ℕ) → j ≤ i → take j (raised i ns) ≡ take j ns

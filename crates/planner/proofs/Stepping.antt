@@ -83,20 +83,20 @@ module _ {C : Type 0} (way : Way C) (day : Day) (rules : List Rule) where
       }
 
       -- the position becomes the plan
-      pub keep_step : Probed way day rules best ns None → ((qs : List ℕ) → selects rules qs ≡ true → t.settled qs ≡ (before qs ns || same_numbers (take (length ns) qs) (take (length ns) ns)))
+      pub keep_step : Probed way day rules best ns None → (n : ℕ) → n ≡ length ns → ((qs : List ℕ) → selects rules qs ≡ true → t.settled qs ≡ (before qs ns || same_numbers (take n qs) (take n ns)))
           → t.kept ≡ Some ns → Step way day rules s t
-      keep_step probed passes kept =
-          let whole : (ms : List ℕ) → Selection rules ms → (take (length ns) ms ≡ take (length ns) ns) ↔ (ms ≡ ns) = λ ms r.
+      keep_step probed n all passes kept =
+          let whole : (ms : List ℕ) → Selection rules ms → (take n ms ≡ take n ns) ↔ (ms ≡ ns) = λ ms r.
           (let m = selects_length rules ms (selection_selects rules ms r) in
-          let n = selects_length rules ns placed in
-          (λ h. sym (take_all (length ns) ms (omega arith)) ∙ h ∙ take_all (length ns) ns (omega arith), λ h. ap (take (length ns)) h)) in
+          let k = selects_length rules ns placed in
+          (λ h. sym (take_all n ms (omega arith)) ∙ h ∙ take_all n ns (omega arith), λ h. ap (take n) h)) in
           record {
             ns = ns;
             first = first;
             does = inr record {
               hopeful = λ i l. hopeful_of _ (probed i l);
               settles = λ ms r.
-                  let t = settled_next (length ns) passes ms r in
+                  let t = settled_next n passes ms r in
                   (λ h. elim (t.0 h) [ inl i ↦ inl i | inr q ↦ inr ((whole ms r).0 q) ], λ h. t.1 (elim h [ inl i ↦ inl i | inr q ↦ inr ((whole ms r).1 q) ]));
               new_plan = kept;
             };

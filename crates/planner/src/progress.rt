@@ -1,6 +1,11 @@
 //! How far a search is.
+ghost use Rattle.std.specs.Prelude.{◌≡◌, true};
+ghost use Rattle.problem.specs.Problems.{rules_of};
+ghost use Rattle.search.specs.Tests.{selects};
+
+use crate::selection::Selection;
 use arrayvec::ArrayVec;
-use problem::{MAX_EVENTS, MAX_RULES};
+use problem::{MAX_EVENTS, MAX_RULES, Problem};
 
 /// The number of a choice for each rule, in rule order.
 pub(crate) type Choices = ArrayVec<u8, MAX_RULES>;
@@ -17,4 +22,18 @@ pub(crate) struct Plan {
 pub(crate) struct Progress {
     pub(crate) position: Option<Choices>,
     pub(crate) plan: Option<Plan>,
+}
+
+impl Plan {
+    /// The selection that is kept, of the rules of the problem.
+    pub(crate) fn selection<'a>(&'a self, problem: &'a Problem) -> Selection<'a>
+        requires { selects (rules_of problem.now) self.now.choices.items ≡ true }
+        ensures problem { result.problem.now ≡ problem.now }
+        ensures choices { result.choices.now ≡ self.now.choices.items }
+    {
+        Selection {
+            problem,
+            choices: &self.choices,
+        }
+    }
 }

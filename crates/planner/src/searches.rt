@@ -40,7 +40,7 @@ impl<W: Counting, N: Network> Search<W, N> {
         ensures problem { self.new.problem ≡ self.old.problem }
         ensures cases { MatchResult result (λ made. Pressed W.Counting.way self.old.problem.day (rules_of self.old.problem) (search_state self.old) steps made (search_state self.new)) (λ _. self.new ≡ self.old) }
     {
-        if steps < 1 || steps > MAX_PRESS {
+        if !(1..=MAX_PRESS).contains(&steps) {
             return Err(Refusal::PressRange);
         }
         let made = run::<W, N>(&self.problem, &mut self.progress, &mut self.network, steps);

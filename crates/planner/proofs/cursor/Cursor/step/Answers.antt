@@ -1,6 +1,5 @@
-use Rattle.std.proofs.Common.{Some, None, refl, sym, ap, ◌∙◌, subst}
+use Rattle.std.proofs.Common.{◌≡◌, Some, None, refl, sym, ◌∙◌, subst, arith}
 use Rattle.problem.specs.Problems.{rules_of}
-use Rattle.planner.specs.Advancing.{Advanced}
 use Rattle.planner.specs.Facts.{state_of}
 use Rattle.planner.specs.Loading.{Loaded}
 use Rattle.planner.specs.Probing.{Probed}
@@ -27,6 +26,6 @@ returns-in-None-clause-step g c =
     let way = g.W.Counting.way in
     let best = c.args.self.now.best in
     let probed = subst (λ ns. Probed way p.day (rules_of p) best ns None) c.deref.ensures.0 c.in-None.ensures.probed in
-    let advanced = subst (λ n. Advanced (rules_of p) c.args.position.items n c.turn-in-None.result) c.len-whole.ensures.value c.turn-in-None.ensures.advanced in
+    let kept : c.plan.result.choices.items ≡ c.args.position.items = c.plan.ensures.choices ∙ c.deref.ensures.0 in
     keep_step way p.day (rules_of p) (state_of (record { position = Some c.args.position; plan = c.args.plan.now })) best c.requires.price_is c.args.position.items (c.requires.sound.placed c.args.position refl) (λ ms. refl)
-    (state_of (record { position = c.turn-in-None.result; plan = Some c.plan.result })) probed advanced.passes (ap Some (c.plan.ensures.choices ∙ c.deref.ensures.0))
+    _ probed _ (omega (arith, c.len-whole.ensures.value)) c.turn-in-None.ensures.advanced.passes (cc)

@@ -24,6 +24,6 @@ loop-i-preserved c =
     let i = c.loop-i.i in
     let few : length s.choices.now ≤ 32 = few_choices s.problem.now s.choices.now s.selected in
     elim c.if-is_none.branch [
-      | then-is_none w ↦ w.word-is ∙ bits_set (rules_in s) s.choices.now i s.selected c.loop-i-test.true c.loop-i.word c.loop-i.invariant c.option.result c.option.ensures w.if-is_none.ensures (omega arith)
+      | then-is_none w ↦ bits_set (rules_in s) s.choices.now i s.selected c.loop-i-test.true c.loop-i.word c.loop-i.invariant c.option.result c.option.ensures w.if-is_none.ensures (omega arith) c.if-is_none.word (cc)
       | else-is_none w ↦ w.word-is ∙ bits_clear (rules_in s) s.choices.now i s.selected c.loop-i-test.true c.loop-i.word c.loop-i.invariant c.option.result c.option.ensures w.if-is_none.ensures
     ]

@@ -1,4 +1,4 @@
-use Rattle.std.proofs.Common.{◌≡◌, length, replicate, sym, ap, ◌∙◌, arith}
+use Rattle.std.proofs.Common.{◌≡◌, length, replicate, sym, ap, ◌∙◌, arith, rules}
 use Rattle.std.proofs.lemmas.List.{length-map}
 use Rattle.problem.specs.Problems.{rules_of}
 use Rattle.problem.specs.Rules.{rule_of}
@@ -18,11 +18,11 @@ invariant_of-result g c =
     let p = c.args.self.problem in
     let n : length c.rules.result.now ≡ length (rules_of p) = sym (length-map c.rules.result.now rule_of) ∙ ap length c.rules.ensures in
     let zeros : c.first_choices.result.items ≡ replicate (length (rules_of p)) 0 = c.first_choices.ensures ∙ ap (λ k. replicate k 0) n in
-    record { sound = fresh_sound p.day (rules_of p) (fit_some p.day (rules_of p) p.fit) c.first_choices.result zeros }
+    record { sound = fresh_sound p.day (rules_of p) (fit_some p.day (rules_of p) p.fit) c.first_choices.result zeros _ (search rules) (search rules) }
 
 pub returns-clause-start : goal.returns-clause-start
 returns-clause-start g c =
     let p = c.args.self.problem in
     let n : length c.rules.result.now ≡ length (rules_of p) = sym (length-map c.rules.result.now rule_of) ∙ ap length c.rules.ensures in
     let zeros : c.first_choices.result.items ≡ replicate (length (rules_of p)) 0 = c.first_choices.ensures ∙ ap (λ k. replicate k 0) n in
-    fresh_start p.day (rules_of p) (fit_some p.day (rules_of p) p.fit) c.first_choices.result zeros g.W.Counting.way
+    fresh_start p.day (rules_of p) (fit_some p.day (rules_of p) p.fit) c.first_choices.result zeros g.W.Counting.way _ (λ ns. search rules) (search rules)

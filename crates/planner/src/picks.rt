@@ -1,30 +1,13 @@
 //! What a selection picks for a rule.
-ghost use Rattle.std.specs.Prelude.{◌≡◌, ◌+◌, ◌<◌, true, length, slice_index, slice_index_or, Decides};
+ghost use Rattle.std.specs.Prelude.{◌≡◌, ◌+◌, ◌<◌, length, slice_index, slice_index_or, Decides};
 ghost use Rattle.problem.specs.Costs.{charge};
-ghost use Rattle.problem.specs.Problems.{rules_of};
 ghost use Rattle.problem.specs.Rules.{Rule, rule_of};
-ghost use Rattle.search.specs.Tests.{selects};
 ghost use Rattle.planner.specs.Choosing.{as_option, choice_in, rules_in, width_at};
 
 use crate::choice::{option_of, penalty_of, width};
-use crate::progress::Plan;
 use crate::selection::Selection;
 use counting::Penalty;
-use problem::{Constraint, Disjunct, Problem};
-
-impl Plan {
-    /// The selection that is kept, of the rules of the problem.
-    pub(crate) fn selection<'a>(&'a self, problem: &'a Problem) -> Selection<'a>
-        requires { selects (rules_of problem.now) self.now.choices.items ≡ true }
-        ensures problem { result.problem.now ≡ problem.now }
-        ensures choices { result.choices.now ≡ self.now.choices.items }
-    {
-        Selection {
-            problem,
-            choices: &self.choices,
-        }
-    }
-}
+use problem::{Constraint, Disjunct};
 
 impl<'a> Selection<'a> {
     /// Rule `i`.
