@@ -83,9 +83,9 @@ module _ {C : Type 0} (way : Way C) (day : Day) (rules : List Rule) where
       }
 
       -- the position becomes the plan
-      pub keep_step : Probed way day rules best ns None → (n : ℕ) → n ≡ length ns → ((qs : List ℕ) → selects rules qs ≡ true → t.settled qs ≡ (before qs ns || same_numbers (take n qs) (take n ns)))
-          → t.kept ≡ Some ns → Step way day rules s t
-      keep_step probed n all passes kept =
+      pub keep_step : Probed way day rules best ns None → (n : ℕ) → ((qs : List ℕ) → selects rules qs ≡ true → t.settled qs ≡ (before qs ns || same_numbers (take n qs) (take n ns)))
+          → n ≡ length ns → t.kept ≡ Some ns → Step way day rules s t
+      keep_step probed n passes all kept =
           let whole : (ms : List ℕ) → Selection rules ms → (take n ms ≡ take n ns) ↔ (ms ≡ ns) = λ ms r.
           (let m = selects_length rules ms (selection_selects rules ms r) in
           let k = selects_length rules ns placed in

@@ -28,4 +28,4 @@ returns-in-None-clause-step g c =
     let probed = subst (λ ns. Probed way p.day (rules_of p) best ns None) c.deref.ensures.0 c.in-None.ensures.probed in
     let kept : c.plan.result.choices.items ≡ c.args.position.items = c.plan.ensures.choices ∙ c.deref.ensures.0 in
     keep_step way p.day (rules_of p) (state_of (record { position = Some c.args.position; plan = c.args.plan.now })) best c.requires.price_is c.args.position.items (c.requires.sound.placed c.args.position refl) (λ ms. refl)
-    _ probed _ (omega (arith, c.len-whole.ensures.value)) c.turn-in-None.ensures.advanced.passes (cc)
+    _ probed _ c.turn-in-None.ensures.advanced.passes (omega (arith, c.len-whole.ensures.value)) (cc)
