@@ -19,7 +19,7 @@ returns-in_err-read-in-Read g c =
 pub returns-in_ok-press-in-Press : goal.returns-in_ok-press-in-Press
 returns-in_ok-press-in-Press g c =
     let e = c.in_ok-press-in-Press.ensures in
-    rw (c.in-Press.is, e.problem) (Means.acts _ _ _ _ (Acts.presses _ _ _ _ _ _ (sym e.refused) (rw e.problem at e.cases)))
+    rw (c.in-Press.is, e.problem) (Means.acts _ _ _ _ (Acts.presses _ _ _ _ _ _ (sym e.refused) e.cases))
 
 pub returns-in-Outcome : goal.returns-in-Outcome
 returns-in-Outcome g c = rw c.in-Outcome.is (Means.acts _ _ _ _ (Acts.tells _ _ _ _ c.outcome.ensures))
