@@ -1,5 +1,6 @@
-use Rattle.std.proofs.Common.{◌≡◌, Some, None, refl, sym, ◌∙◌, subst, arith}
+use Rattle.std.proofs.Common.{◌≡◌, Some, None, refl, sym, ◌∙◌, subst, rules}
 use Rattle.problem.specs.Problems.{rules_of}
+use Rattle.planner.specs.Advancing.{Advanced}
 use Rattle.planner.specs.Facts.{state_of}
 use Rattle.planner.specs.Loading.{Loaded}
 use Rattle.planner.specs.Probing.{Probed}
@@ -27,5 +28,6 @@ returns-in-None-clause-step g c =
     let best = c.args.self.now.best in
     let probed = subst (λ ns. Probed way p.day (rules_of p) best ns None) c.deref.ensures.0 c.in-None.ensures.probed in
     let kept : c.plan.result.choices.items ≡ c.args.position.items = c.plan.ensures.choices ∙ c.deref.ensures.0 in
+    let advanced : Advanced (rules_of p) c.args.position.items c.len-whole.result c.turn-in-None.result = search (rules, c.turn-in-None.ensures.advanced) in
     keep_step way p.day (rules_of p) (state_of (record { position = Some c.args.position; plan = c.args.plan.now })) best c.requires.price_is c.args.position.items (c.requires.sound.placed c.args.position refl) (λ ms. refl)
-    _ probed _ c.turn-in-None.ensures.advanced.passes (omega (arith, c.len-whole.ensures.value)) (cc)
+    _ probed c.len-whole.result advanced.passes c.len-whole.ensures.value (cc)
