@@ -6,21 +6,17 @@ use Rattle.std.proofs.lemmas.List.{take_all, take_more}
 use Rattle.problem.specs.Bounds.{max_events}
 use Rattle.problem.specs.Timetables.{OfDay, minute}
 use Rattle.problem.specs.declared.day.Day.{Day}
-use Rattle.network.specs.Limits.{Keeps}
-use Rattle.network.specs.Prefixes.{nowhere}
+use Rattle.network.specs.Limits.{Keeps, nowhere}
 use Rattle.network.specs.declared.limit.Limit.{Limit}
 use Rattle.network.specs.declared.limit_list.LimitList.{LimitList}
+use Rattle.network.proofs.Solutions.{all_first}
 use Rattle.list_network.specs.declared.relax.Relaxation.{Relaxation}
 use Rattle.list_network.specs.declared.relax.Effect.{Effect}
 use Rattle.list_network.specs.declared.relax.Effect.TheVariants.{Rest, Raised}
 use Rattle.list_network.specs.Effects.{joint}
 use Rattle.list_network.specs.Relaxing.{Old, Candidate, Follows, Lost, Resting, Rising, Acted, SameLimits, Settling}
 
--- what holds of each of a list holds of each of its parts
-pub all_left : (P : Limit → Type 0) (ls ks : List Limit) → AllByRecursion P (ls ++ ks) → AllByRecursion P ls
-all_left P [] ks h = tt
-all_left P (l ∷ ls) ks h = (h.0, all_left P ls ks h.1)
-
+-- what holds of each of a list holds of each of its last part
 pub all_right : (P : Limit → Type 0) (ls ks : List Limit) → AllByRecursion P (ls ++ ks) → AllByRecursion P ks
 all_right P [] ks h = h
 all_right P (l ∷ ls) ks h = all_right P ls ks h.1
@@ -38,8 +34,8 @@ module _ (day : Day) (newest : Limit) (ls ks : List Limit) where
   for_left us T cand = record {
     timetable = cand.timetable;
     keeps_newest = cand.keeps_newest;
-    keeps = all_left (Keeps T) ls ks cand.keeps;
-    old = all_left (Old us newest) ls ks cand.old;
+    keeps = all_first (Keeps T) ls ks cand.keeps;
+    old = all_first (Old us newest) ls ks cand.old;
   }
 
   for_right : (us : List ℕ) (T : ℕ → ℕ) → Candidate day newest (ls ++ ks) us T → Candidate day newest ks us T

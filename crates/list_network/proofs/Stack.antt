@@ -15,7 +15,8 @@ use Rattle.network.specs.declared.limit.Limit.{Limit}
 use Rattle.list_network.specs.Relaxing.{Old, Candidate, Below, Lost, Settling, Settled}
 use Rattle.list_network.specs.Held.{newest}
 use Rattle.list_network.specs.Model.{modelled}
-use Rattle.list_network.proofs.Rounds.{all_left, all_right}
+use Rattle.network.proofs.Solutions.{all_first}
+use Rattle.list_network.proofs.Rounds.{all_right}
 use Rattle.list_network.specs.Smallest.{Smallest, Stacked, beginning}
 use Rattle.list_network.specs.declared.list.ListNetwork.{ListNetwork}
 use Rattle.list_network.specs.declared.relax.Relaxation.{Relaxation}
@@ -57,7 +58,7 @@ module _ (m : Net) (l : Limit) (row : List ℕ) (s : Smallest m row) where
 
   starts_below : (T : ℕ → ℕ) → Solves (with_limit m l) T → Below l row T row
   starts_below T t i =
-      let low = s.lowest T (t.0, all_left (Keeps T) m.limits (l ∷ []) t.1) i in
+      let low = s.lowest T (t.0, all_first (Keeps T) m.limits (l ∷ []) t.1) i in
       (omega arith, low, λ lt. absurd (omega arith))
 
   -- no minutes left: no timetable

@@ -4,8 +4,7 @@ use Rattle.std.proofs.ByRecursion.{All-weaker, All-get_or, All-from_get_or, all_
 use Rattle.std.proofs.lemmas.Int.{ints}
 use Rattle.std.specs.List.{AllByRecursion}
 use Rattle.network.specs.Laws.{MinimumSolves, SmallestSolve, OrderIsFree, ShorterSolvable}
-use Rattle.network.specs.Limits.{Lawful, Keeps}
-use Rattle.network.specs.Prefixes.{nowhere}
+use Rattle.network.specs.Limits.{Lawful, Keeps, nowhere}
 use Rattle.network.specs.Nets.{Net, Solves, Earliest}
 use Rattle.network.specs.declared.limit.Limit.{Limit}
 use Rattle.network.proofs.Taken.{lawful_x, lawful_y}
@@ -15,7 +14,8 @@ all_both : {X : Type 0} (P Q : X → Type 0) (xs : List X) → AllByRecursion P 
 all_both P Q [] h k = tt
 all_both P Q (x ∷ xs) h k = ((h.0, k.0), all_both P Q xs h.1 k.1)
 
-all_first : {X : Type 0} (P : X → Type 0) (xs ys : List X) → AllByRecursion P (xs ++ ys) → AllByRecursion P xs
+-- what holds of each of a list holds of each of its first part
+pub all_first : {X : Type 0} (P : X → Type 0) (xs ys : List X) → AllByRecursion P (xs ++ ys) → AllByRecursion P xs
 all_first P [] ys h = tt
 all_first P (x ∷ xs) ys h = (h.0, all_first P xs ys h.1)
 

@@ -3,7 +3,8 @@
 --   Lawful         a limit on two different events of the day, with a bound in range
 --   limit_checks   the checks of a limit: its events, its bound, then that there is room
 --   Keeps          a timetable keeps a limit
-use Rattle.std.specs.Prelude.{◌≡◌, ℕ, true, List, [], ◌∷◌, ◌≤ℤ◌, nat_lt}
+--   nowhere        what stands where a list of limits has none
+use Rattle.std.specs.Prelude.{◌≡◌, ℕ, true, List, [], ◌∷◌, pos, ◌≤ℤ◌, nat_lt}
 use Rattle.problem.specs.Checks.{Check, check, in_range, two_events}
 use Rattle.problem.specs.Timetables.{gap}
 use Rattle.problem.specs.declared.day.Day.{Day}
@@ -28,3 +29,7 @@ limit_checks day count l =
 -- T(x) - T(y) is at most the bound
 abbrev pub Keeps : (ℕ → ℕ) → Limit → Type 0
 Keeps T l = gap T l.x l.y ≤ℤ l.bound
+
+-- no limit
+abbrev pub nowhere : Limit
+nowhere = record { x = 0; y = 0; bound = pos 0 }

@@ -1,7 +1,7 @@
 use Rattle.std.proofs.Common.{List, ◌∷◌, [], get_or, subst, rules}
 use Rattle.std.proofs.lemmas.Result.{err_from_is_err_and}
 use Rattle.network.specs.Lists.{net_of}
-use Rattle.network.specs.Prefixes.{nowhere}
+use Rattle.network.specs.Limits.{nowhere}
 use Rattle.network.specs.declared.limit.Limit.{Limit}
 use Rattle.list_network.specs.Relaxing.{SameLimits, Acted, Lost}
 use Rattle.list_network.proofs.Rounds.{as_before, goes_on, goes_lost, round_ends, lost_first, then_acted, then_lost}
