@@ -13,10 +13,7 @@ use network::Network;
 fn beaten<W: Counting>(best: Option<W>, price: W) -> bool
     ensures { Decides result (Beaten W.Counting.way best price) }
 {
-    match best {
-        Some(kept) => kept.at_most(price),
-        None => false,
-    }
+    best.is_some_and(|kept| kept.at_most(price))
 }
 
 impl<W: Counting, N: Network> Cursor<'_, W, N> {
