@@ -37,27 +37,18 @@ fn lower_limit(option: Disjunct) -> Limit
     }
 }
 
-/// Puts both limits on, or neither where no timetable meets them with the others.
-fn push_both<N: Network>(network: &mut N, first: Limit, second: Limit) -> Result<(), Refusal>
-    requires lawful { AllByRecursion (Lawful (N.Network.net network.old).day) (first ∷ (second ∷ [])) }
-    requires room { length (N.Network.net network.old).limits + 2 ≤ max_limits }
-    ensures { Put (N.Network.net network.old) (first ∷ (second ∷ [])) result (N.Network.net network.new) }
-{
-    network.push(first)?;
-    if let Err(refusal) = network.push(second) {
-        let _ = network.pop();
-        return Err(refusal);
-    }
-    Ok(())
-}
-
 /// Puts the limits of the option on, or neither where no timetable meets them with the others.
 fn push_option<N: Network>(network: &mut N, option: Disjunct) -> Result<(), Refusal>
     requires lawful { AllByRecursion (Lawful (N.Network.net network.old).day) (choice_limits (Choice.option option)) }
     requires room { length (N.Network.net network.old).limits + 2 ≤ max_limits }
     ensures { Put (N.Network.net network.old) (choice_limits (Choice.option option)) result (N.Network.net network.new) }
 {
-    push_both(network, upper_limit(option), lower_limit(option))
+    network.push(upper_limit(option))?;
+    if let Err(refusal) = network.push(lower_limit(option)) {
+        network.pop().unwrap();
+        return Err(refusal);
+    }
+    Ok(())
 }
 
 /// Takes the limits of the choice of rule `i` off, where they are the newest.
