@@ -1,7 +1,7 @@
 -- What is loaded, as choices come and go.
 use Rattle.std.proofs.Common.{◌≡◌, ℕ, ◌+◌, ◌*◌, ◌<◌, ◌≤◌, true, false, ltb, List, [], ◌∷◌, ◌++◌, length, get_or, take, is_some, Some, None, Ok, Err, Option, Result, MatchResult, sym, refl, ap, ◌∙◌, subst, subst₂, inl, inr, arith}
 use Rattle.std.specs.List.{AllByRecursion, flat_map}
-use Rattle.std.specs.Result.{is_err}
+use Rattle.std.specs.Result.{is_err, IsOk}
 use Rattle.std.proofs.lemmas.List.{append_assoc, append-nil, length-append, length-take, flat_map_more, same_from_push, take-take}
 use Rattle.std.proofs.lemmas.Bool.{cond-true, lt-ltb, false≢true}
 use Rattle.problem.specs.Checks.{first_refusal, two_events, in_range}
@@ -67,6 +67,14 @@ pop_newest m m' (Err x) ls l e (code, none, same) =
     let n = length-append ls (l ∷ []) in
     absurd (omega arith)
 
+-- where there is one, a pop is not refused
+pub pop_done : (m m' : Net) (r : Result Unit Refusal) (ls : List Limit) (l : Limit) → m.limits ≡ ls ++ l ∷ [] → Popped m r m' → IsOk r
+pop_done m m' (Ok u) ls l e p = refl
+pop_done m m' (Err x) ls l e (code, none, same) =
+    let z : length (ls ++ l ∷ []) ≡ 0 = ap length (sym e ∙ none) in
+    let n = length-append ls (l ∷ []) in
+    absurd (omega arith)
+
 -- the second of two limits clashes, and the first comes off
 pub put_one : (m m₁ m₂ m₃ : Net) (l k : Limit) (e : Refusal) (r : Result Unit Refusal) → Lawful m.day k → length m.limits + 2 ≤ max_limits
     → Granted m l m₁ → Pushed m₁ k (Err e) m₂ → Popped m₂ r m₃ → Put m (l ∷ (k ∷ [])) (Err e) m₃
@@ -120,6 +128,19 @@ none_limits (give_up p) e = refl
 pub some_option : (ch : Choice) (d : Disjunct) → as_option ch ≡ Some d → ch ≡ option d
 some_option (option c) d e = let f : c ≡ d = cc in ap option f
 some_option (give_up p) d e = absurd (never d (as_option (give_up p)) refl e)
+
+no_limits : (ch : Choice) (o : Option Disjunct) → o ≡ as_option ch → false ≡ is_some o → choice_limits ch ≡ []
+no_limits (option d) o e f = absurd (false≢true (f ∙ ap is_some e))
+no_limits (give_up p) o e f = refl
+
+-- the second limit of an option comes off
+off_one : (m m₁ : Net) (ch : Choice) (o : Option Disjunct) (r : Result Unit Refusal) → o ≡ as_option ch → true ≡ is_some o → Popped m r m₁
+    → (ls : List Limit) → m.limits ≡ ls ++ choice_limits ch → IsOk r × ((l : Limit) × Without m (ls ++ l ∷ []) m₁)
+off_one m m₁ (option d) o r e t p ls same =
+    let l : Limit = record { x = d.x; y = d.y; bound = d.hi } in
+    let last = same ∙ sym (append_assoc ls (l ∷ []) _) in
+    (pop_done m m₁ r (ls ++ l ∷ []) _ last p, (l, pop_newest m m₁ r (ls ++ l ∷ []) _ last p))
+off_one m m₁ (give_up x) o r e t p ls same = absurd (false≢true (ap is_some (sym e) ∙ sym t))
 
 module _ (day : Day) (rules : List Rule) (ns : List ℕ) where
   pub loaded_at : (d e : ℕ) (m : Net) → d ≡ e → Loaded day rules ns d m → Loaded day rules ns e m
@@ -194,18 +215,33 @@ module _ (day : Day) (rules : List Rule) (ns : List ℕ) (placed : selects rules
         none T (subst (λ x. Solves (with_limits x (choice_limits (option d))) T) (sym h.loads) (subst (λ ls. Solves (record { day = day; limits = ls }) T) (more_with d e) s))
 
   -- the limits of the newest choice are the newest
-  pub loaded_newest : (m : Net) → Loaded day rules ns (i + 1) m → m.limits ≡ prefix_limits rules (take i ns) ++ choice_limits choice
+  loaded_newest : (m : Net) → Loaded day rules ns (i + 1) m → m.limits ≡ prefix_limits rules (take i ns) ++ choice_limits choice
   loaded_newest m h = limits_of h.loads ∙ limits_more
 
-  pub loaded_less : (m m' : Net) → Loaded day rules ns (i + 1) m → Without m (prefix_limits rules (take i ns)) m' → Loaded day rules ns i m'
+  loaded_less : (m m' : Net) → Loaded day rules ns (i + 1) m → Without m (prefix_limits rules (take i ns)) m' → Loaded day rules ns i m'
   loaded_less m m' h w = record { within = let n = h.within in omega arith; loads = w ∙ (λ j. record { day = day_of h.loads j; limits = prefix_limits rules (take i ns) }) }
 
--- the limits of an option, taken off one after the other
-pub off_both : (m m₁ m₂ : Net) (ch : Choice) (o : Option Disjunct) (r r₁ : Result Unit Refusal) → o ≡ as_option ch → true ≡ is_some o → Popped m r m₁ → Popped m₁ r₁ m₂
-    → (ls : List Limit) → m.limits ≡ ls ++ choice_limits ch → Without m ls m₂
-off_both m m₁ m₂ (option d) o r r₁ e t p q ls same =
-    let l : Limit = record { x = d.x; y = d.y; bound = d.hi } in
-    let one : Without m (ls ++ l ∷ []) m₁ = pop_newest m m₁ r (ls ++ l ∷ []) _ (same ∙ sym (append_assoc ls (l ∷ []) _)) p in
-    let two : Without m₁ ls m₂ = pop_newest m₁ m₂ r₁ ls l (limits_of one) q in
-    two ∙ (λ i. record { day = day_of one i; limits = ls })
-off_both m m₁ m₂ (give_up x) o r r₁ e t p q ls same = absurd (false≢true (ap is_some (sym e) ∙ sym t))
+  module _ (m : Net) (h : Loaded day rules ns (i + 1) m) (o : Option Disjunct) (read : o ≡ as_option choice) where
+    -- a choice that gives up has no limits to take off
+    pub loaded_same : false ≡ is_some o → Loaded day rules ns i m
+    loaded_same none =
+        let same : m.limits ≡ prefix_limits rules (take i ns) = loaded_newest m h ∙ ap (λ ls. prefix_limits rules (take i ns) ++ ls) (no_limits choice o read none) ∙ append-nil _ in
+        loaded_less m m h (λ j. record { day = m.day; limits = same j })
+
+    -- an option has two, which come off one after the other
+    module _ (m₁ : Net) (r : Result Unit Refusal) (some : true ≡ is_some o) (p : Popped m r m₁) where
+      first_off : IsOk r × ((l : Limit) × Without m (prefix_limits rules (take i ns) ++ l ∷ []) m₁)
+      first_off = off_one m m₁ choice o r read some p (prefix_limits rules (take i ns)) (loaded_newest m h)
+
+      pub pops : IsOk r
+      pops = first_off.0
+
+      module _ (m₂ : Net) (r₁ : Result Unit Refusal) (q : Popped m₁ r₁ m₂) where
+        pub pops_again : IsOk r₁
+        pops_again = pop_done m₁ m₂ r₁ (prefix_limits rules (take i ns)) first_off.1.0 (limits_of first_off.1.1) q
+
+        pub loaded_off : Loaded day rules ns i m₂
+        loaded_off =
+            let one = first_off.1.1 in
+            let two : Without m₁ (prefix_limits rules (take i ns)) m₂ = pop_newest m₁ m₂ r₁ (prefix_limits rules (take i ns)) first_off.1.0 (limits_of one) q in
+            loaded_less m m₂ h (two ∙ (λ j. record { day = day_of one j; limits = prefix_limits rules (take i ns) }))

@@ -53,12 +53,13 @@ fn push_option<N: Network>(network: &mut N, option: Disjunct) -> Result<(), Refu
 
 /// Takes the limits of the choice of rule `i` off, where they are the newest.
 fn take_off<N: Network>(network: &mut N, selection: Selection, i: usize)
-    requires { i < length selection.choices.now }
-    ensures { (ls : List Limit) → (N.Network.net network.old).limits ≡ ls ++ choice_limits (choice_in selection.entry i) → Without (N.Network.net network.old) ls (N.Network.net network.new) }
+    requires more { i < length selection.choices.now }
+    requires stands { Stands selection (i + 1) (N.Network.net network.old) }
+    ensures { Stands selection.entry i (N.Network.net network.new) }
 {
     if selection.option(i).is_some() {
-        let _ = network.pop();
-        let _ = network.pop();
+        network.pop().unwrap();
+        network.pop().unwrap();
     }
 }
 

@@ -37,7 +37,7 @@ fn earliest_minutes<N: Network>(network: &N, events: usize) -> ArrayVec<u32, MAX
 fn empty<N: Network>(network: &mut N, day: Day)
     ensures { N.Network.net network.new ≡ record { day = day; limits = [] } }
 {
-    let _ = network.reset(day.events(), day.horizon());
+    network.reset(day.events(), day.horizon()).unwrap();
 }
 
 /// The price of the plan, if one is kept.
