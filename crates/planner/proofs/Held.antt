@@ -8,7 +8,7 @@ use Rattle.problem.specs.Timetables.{minute}
 use Rattle.problem.specs.declared.day.Day.{Day}
 use Rattle.problem.specs.declared.refusal.Refusal.{Refusal}
 use Rattle.search.specs.Outcomes.{TellsWord, Tells, kept_price, given_word, given_bits}
-use Rattle.search.specs.Searches.{State, Start}
+use Rattle.search.specs.Searches.{State, Start, Running, Ended}
 use Rattle.search.specs.Selections.{picked, price}
 use Rattle.search.specs.Tests.{before}
 use Rattle.search.specs.declared.word.Word.{Word}
@@ -47,6 +47,20 @@ module _ (day : Day) (rules : List Rule) (p : Progress) (sound : SoundProgress d
   abbrev state : State
   state = state_of p
 
+  -- with a position a search runs, and without one it has ended
+  running : (position : Choices) → p.position ≡ Some position → Running rules state
+  running position e = (position.items, selects_selection rules _ (sound.placed position e), ap (λ x. passed x position.items) e ∙ before_self position.items)
+
+  ended : p.position ≡ None → Ended rules state
+  ended e = λ ns r. ap (λ x. passed x ns) e
+
+  -- the word is the one of the state
+  word_tells : (o : Option Choices) (k : Option Plan) → p.position ≡ o → p.plan ≡ k → TellsWord rules state (word_of o k)
+  word_tells (Some position) None e k = (running position e, ap (option_map (λ (q : Plan). q.choices.items)) k)
+  word_tells (Some position) (Some plan) e k = (running position e, (_, ap (option_map (λ (q : Plan). q.choices.items)) k))
+  word_tells None None e k = (ended e, ap (option_map (λ (q : Plan). q.choices.items)) k)
+  word_tells None (Some plan) e k = (ended e, (_, ap (option_map (λ (q : Plan). q.choices.items)) k))
+
   module _ (plan : Plan) (kept : p.plan ≡ Some plan) where
     kept_selection : state.kept ≡ Some plan.choices.items
     kept_selection = ap (option_map (λ (q : Plan). q.choices.items)) kept
@@ -62,17 +76,10 @@ module _ (day : Day) (rules : List Rule) (p : Progress) (sound : SoundProgress d
           },
         )
 
-    word_kept : (o : Option Choices) (ended : Bool) → p.position ≡ o → is_some o ≡ not ended → TellsWord rules state (word_of ended true)
-    word_kept None true e h = (λ ns r. ap (λ x. passed x ns) e, (_, kept_selection))
-    word_kept None false e h = absurd (false≢true h)
-    word_kept (Some position) true e h = absurd (false≢true (sym h))
-    word_kept (Some position) false e h =
-        ((position.items, selects_selection rules _ (sound.placed position e), ap (λ x. passed x position.items) e ∙ before_self position.items), (_, kept_selection))
-
-    pub told_kept : {C : Type 0} (way : Way C) (ended : Bool) (w : Word) (cost : C) (given : ℕ) → is_some p.position ≡ not ended → w ≡ word_of ended true → cost ≡ price way rules plan.choices.items
+    pub told_kept : {C : Type 0} (way : Way C) (w : Word) (cost : C) (given : ℕ) → w ≡ word_of p.position p.plan → cost ≡ price way rules plan.choices.items
         → given ≡ given_bits rules plan.choices.items → Tells way rules state w cost given
-    told_kept way ended w cost given h e f g = record {
-      word_is = subst (TellsWord rules state) (sym e) (word_kept p.position ended refl h);
+    told_kept way w cost given e f g = record {
+      word_is = subst (TellsWord rules state) (sym e) (word_tells p.position p.plan refl refl);
       cost_is = f ∙ ap (kept_price way rules) (sym kept_selection);
       given_is = g ∙ ap (given_word rules) (sym kept_selection);
     }
@@ -81,16 +88,9 @@ module _ (day : Day) (rules : List Rule) (p : Progress) (sound : SoundProgress d
     no_selection : state.kept ≡ None
     no_selection = ap (option_map (λ (q : Plan). q.choices.items)) none
 
-    word_none : (o : Option Choices) (ended : Bool) → p.position ≡ o → is_some o ≡ not ended → TellsWord rules state (word_of ended false)
-    word_none None true e h = (λ ns r. ap (λ x. passed x ns) e, no_selection)
-    word_none None false e h = absurd (false≢true h)
-    word_none (Some position) true e h = absurd (false≢true (sym h))
-    word_none (Some position) false e h =
-        ((position.items, selects_selection rules _ (sound.placed position e), ap (λ x. passed x position.items) e ∙ before_self position.items), no_selection)
-
-    pub told_none : {C : Type 0} (way : Way C) (ended : Bool) (w : Word) (cost : C) → is_some p.position ≡ not ended → w ≡ word_of ended false → cost ≡ way.zero → Tells way rules state w cost 0
-    told_none way ended w cost h e f = record {
-      word_is = subst (TellsWord rules state) (sym e) (word_none p.position ended refl h);
+    pub told_none : {C : Type 0} (way : Way C) (w : Word) (cost : C) → w ≡ word_of p.position p.plan → cost ≡ way.zero → Tells way rules state w cost 0
+    told_none way w cost e f = record {
+      word_is = subst (TellsWord rules state) (sym e) (word_tells p.position p.plan refl refl);
       cost_is = f ∙ ap (kept_price way rules) (sym no_selection);
       given_is = ap (given_word rules) (sym no_selection);
     }

@@ -4,7 +4,7 @@
 --   read_checks    a plan is kept, then the day has the event
 --   Reads          the smallest minute of an event under the plan
 --   word_of        the word of a search
-use Rattle.std.specs.Prelude.{◌≡◌, ℕ, Bool, true, false, ◌&&◌, List, [], ◌∷◌, is_some, Some, nat_le, nat_lt}
+use Rattle.std.specs.Prelude.{◌≡◌, ℕ, ◌&&◌, List, [], ◌∷◌, is_some, Some, None, Option, nat_le, nat_lt}
 use Rattle.problem.specs.Checks.{Check, check}
 use Rattle.problem.specs.Rules.{Rule}
 use Rattle.problem.specs.declared.day.Day.{Day}
@@ -13,6 +13,8 @@ use Rattle.search.specs.Outcomes.{Smallest}
 use Rattle.search.specs.Searches.{State}
 use Rattle.search.specs.declared.word.Word.{Word}
 use Rattle.search.specs.declared.word.Word.TheVariants as word
+use Rattle.planner.specs.Choosing.{Choices}
+use Rattle.planner.specs.declared.progress.Plan.{Plan}
 
 -- the most steps of one press
 abbrev pub max_press : ℕ
@@ -30,9 +32,9 @@ read_checks day s event = check (is_some s.kept) refusal.NoPlan ∷ (check (nat_
 abbrev pub Reads : Day → List Rule → State → ℕ → ℕ → Type 0
 Reads day rules s event t = (plan : List ℕ) × (s.kept ≡ Some plan) × Smallest day rules plan event t
 
--- by whether the search has ended, and whether a plan is kept
-abbrev pub word_of : Bool → Bool → Word
-word_of false false = word.Open
-word_of false true = word.Short
-word_of true false = word.None
-word_of true true = word.Proved
+-- by whether there is a position, and whether a plan is kept
+abbrev pub word_of : Option Choices → Option Plan → Word
+word_of (Some position) None = word.Open
+word_of (Some position) (Some plan) = word.Short
+word_of None None = word.None
+word_of None (Some plan) = word.Proved

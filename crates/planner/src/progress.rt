@@ -2,10 +2,12 @@
 ghost use Rattle.std.specs.Prelude.{◌≡◌, true};
 ghost use Rattle.problem.specs.Problems.{rules_of};
 ghost use Rattle.search.specs.Tests.{selects};
+ghost use Rattle.planner.specs.Calls.{word_of};
 
 use crate::selection::Selection;
 use arrayvec::ArrayVec;
 use problem::{MAX_EVENTS, MAX_RULES, Problem};
+use search::Word;
 
 /// The number of a choice for each rule, in rule order.
 pub(crate) type Choices = ArrayVec<u8, MAX_RULES>;
@@ -34,6 +36,20 @@ impl Plan {
         Selection {
             problem,
             choices: &self.choices,
+        }
+    }
+}
+
+impl Progress {
+    /// By whether the search has ended, and whether a plan is kept.
+    pub(crate) fn word(&self) -> Word
+        ensures { result ≡ word_of self.now.position self.now.plan }
+    {
+        match (&self.position, &self.plan) {
+            (Some(_), None) => Word::Open,
+            (Some(_), Some(_)) => Word::Short,
+            (None, None) => Word::None,
+            (None, Some(_)) => Word::Proved,
         }
     }
 }

@@ -5,7 +5,7 @@ ghost use Rattle.problem.specs.Checks.{first_refusal};
 ghost use Rattle.problem.specs.Rules.{rule_of};
 ghost use Rattle.problem.specs.Problems.{rules_of};
 ghost use Rattle.search.specs.Outcomes.{Tells};
-ghost use Rattle.planner.specs.Calls.{press_checks, read_checks, Reads, word_of};
+ghost use Rattle.planner.specs.Calls.{press_checks, read_checks, Reads};
 ghost use Rattle.planner.specs.Stepping.{Pressed};
 ghost use Rattle.planner.specs.Views.{search_state};
 
@@ -15,22 +15,9 @@ use crate::step::run;
 use counting::Counting;
 use network::Network;
 use problem::{Constraint, Day, Refusal};
-use search::Word;
 
 /// The most steps of one press.
 pub const MAX_PRESS: u32 = 100_000;
-
-/// The word of a search that has ended or not, with a plan or without.
-fn word(ended: bool, kept: bool) -> Word
-    ensures { result ≡ word_of ended kept }
-{
-    match (ended, kept) {
-        (false, false) => Word::Open,
-        (false, true) => Word::Short,
-        (true, false) => Word::None,
-        (true, true) => Word::Proved,
-    }
-}
 
 impl<W: Counting, N: Network> Search<W, N> {
     /// Moves the search on in place by so many steps, or fewer if it ends first, and says how many were made: none on a
@@ -51,17 +38,17 @@ impl<W: Counting, N: Network> Search<W, N> {
     pub fn outcome(&self) -> Outcome<W>
         ensures { Tells W.Counting.way (rules_of self.now.problem) (search_state self.now) result.word result.cost result.given }
     {
-        let ended = self.progress.position.is_none();
+        let word = self.progress.word();
         let Some(plan) = &self.progress.plan else {
             return Outcome {
-                word: word(ended, false),
+                word,
                 cost: W::ZERO,
                 given: 0,
             };
         };
         let selection = plan.selection(&self.problem);
         Outcome {
-            word: word(ended, true),
+            word,
             cost: selection.price(),
             given: selection.given_up(),
         }
