@@ -1,7 +1,7 @@
 -- The progress of a new search, and what a search tells of its progress.
-use Rattle.std.proofs.Common.{◌≡◌, ℕ, ◌<◌, Bool, true, false, not, List, length, get_or, replicate, is_some, Some, None, Option, Result, IfOk, Bor, ltb, sym, refl, ap, ◌∙◌, subst}
+use Rattle.std.proofs.Common.{◌≡◌, ℕ, ◌<◌, List, length, get_or, replicate, is_some, Some, None, Option, Result, IfOk, Bor, ltb, sym, refl, ap, ◌∙◌, subst}
 use Rattle.std.specs.Option.{option_map, option_copied, unwrap_or, ok_or}
-use Rattle.std.proofs.lemmas.Bool.{false≢true, ltb-true}
+use Rattle.std.proofs.lemmas.Bool.{ltb-true}
 use Rattle.counting.specs.Ways.{Way}
 use Rattle.problem.specs.Rules.{Rule}
 use Rattle.problem.specs.Timetables.{minute}

@@ -1,15 +1,11 @@
 -- A network that was given a day, with nothing loaded.
-use Rattle.std.proofs.Common.{◌≡◌, ℕ, ◌≤◌, ◌&&◌, leb, [], Some, None, Ok, Err, Result, refl, ap, ◌∙◌, subst, MatchResult}
+use Rattle.std.proofs.Common.{◌≡◌, ℕ, ◌≤◌, [], Ok, Result, ◌∙◌, subst, MatchResult}
 use native.Mathlib.Bridge.{le_prop}
-use Rattle.std.specs.Result.{result_err}
-use Rattle.std.proofs.lemmas.Bool.{cond-true, and_from, le-leb}
 use Rattle.problem.specs.Bounds.{max_events, max_horizon}
-use Rattle.problem.specs.Checks.{first_refusal, day_checks}
 use Rattle.problem.specs.declared.day.Day.{Day}
 use Rattle.problem.specs.declared.refusal.Refusal.{Refusal}
 use Rattle.network.specs.Calls.{Emptied}
 use Rattle.network.specs.Nets.{Net}
-use Rattle.planner.proofs.Loadings.{never}
 
 -- days of equal numbers are equal
 pub same_day : (d e : Day) → d.events ≡ e.events → d.horizon ≡ e.horizon → d ≡ e

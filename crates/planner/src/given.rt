@@ -3,6 +3,7 @@ ghost use Rattle.std.specs.Prelude.{◌≡◌};
 ghost use Rattle.search.specs.Outcomes.{given_bits};
 ghost use Rattle.planner.specs.Choosing.{rules_in};
 
+use crate::choice::option_of;
 use crate::selection::Selection;
 
 impl Selection<'_> {
@@ -11,8 +12,9 @@ impl Selection<'_> {
         ensures { result ≡ given_bits (rules_in self.entry) self.entry.choices.now }
     {
         let mut word = 0;
-        for i in 0..self.choices.len() {
-            if self.option(i).is_none() {
+        let picks = self.problem.rules().iter().zip(self.choices);
+        for (i, (rule, choice)) in picks.enumerate() {
+            if option_of(rule, usize::from(*choice)).is_none() {
                 word |= 1u32 << i;
             }
         }

@@ -3,6 +3,7 @@ ghost use Rattle.std.specs.Prelude.{◌≡◌};
 ghost use Rattle.search.specs.Selections.{price};
 ghost use Rattle.planner.specs.Choosing.{rules_in};
 
+use crate::choice::penalty_of;
 use crate::selection::Selection;
 use counting::Counting;
 
@@ -12,8 +13,8 @@ impl Selection<'_> {
         ensures { result ≡ price W.Counting.way (rules_in self.entry) self.entry.choices.now }
     {
         let mut total = W::ZERO;
-        for i in 0..self.choices.len() {
-            total = total.join(W::reading(self.penalty(i)));
+        for (rule, choice) in self.problem.rules().iter().zip(self.choices) {
+            total = total.join(W::reading(penalty_of(rule, usize::from(*choice))));
         }
         total
     }

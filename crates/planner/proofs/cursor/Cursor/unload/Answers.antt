@@ -1,6 +1,5 @@
-use Rattle.std.proofs.Common.{◌+◌, ◌-◌, ◌<◌, length, arith}
+use Rattle.std.proofs.Common.{◌+◌, ◌-◌, arith}
 use Rattle.planner.specs.Choosing.{rules_in}
-use Rattle.planner.specs.Loading.{Stands}
 use Rattle.planner.proofs.Choosing.{selects_length}
 use Rattle.planner.proofs.Loadings.{loaded_at}
 use Rattle.planner.proofs.cursor.Cursor.unload.Goals as goal
