@@ -51,19 +51,20 @@ fn chain<N: Network>(rt: &impl Abort, network: &mut N) {
     assert_eq!(rt; network.earliest(31), Ok(10_080));
 }
 
+/// The network answers all three as it should, one after the other.
+fn answers_as_it_should<N: Network>(rt: &impl Abort, network: &mut N) {
+    ring(rt, network);
+    full(rt, network);
+    chain(rt, network);
+}
+
 #[test]
 fn the_list_network_answers_as_it_should(rt: HostRuntime) {
-    let mut network = ListNetwork::new();
-    ring(&rt, &mut network);
-    full(&rt, &mut network);
-    chain(&rt, &mut network);
+    answers_as_it_should(&rt, &mut ListNetwork::new());
 }
 
 #[test]
 fn the_square_network_answers_as_it_should(rt: HostRuntime) -> Result<(), Fail> {
-    let mut network = SquareNetwork::new(rt.alloc())?;
-    ring(&rt, &mut network);
-    full(&rt, &mut network);
-    chain(&rt, &mut network);
+    answers_as_it_should(&rt, &mut SquareNetwork::new(rt.alloc())?);
     Ok(())
 }

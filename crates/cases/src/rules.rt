@@ -1,7 +1,7 @@
 //! Rules at the edges of what a problem adopts.
 use counting::Penalty;
-use example::gap;
-use problem::{Constraint, Disjunct, Kind, Problem, Refusal};
+use example::{gap, rule};
+use problem::{Disjunct, Kind, Problem, Refusal};
 use std::alloc::{AllocError, Global};
 use std::test::Fail;
 
@@ -21,12 +21,8 @@ fn adopt(
     kind: Kind,
     options: &[Disjunct],
 ) -> Result<Result<(), Refusal>, AllocError> {
-    let disjuncts = Vec::from_slice(heap, options)?;
-    Ok(
-        problem
-            .adopt(Constraint { kind, disjuncts })
-            .map_err(|unadopted| unadopted.refusal),
-    )
+    let adopted = problem.adopt(rule(heap, kind, options)?);
+    Ok(adopted.map_err(|unadopted| unadopted.refusal))
 }
 
 /// What a fresh problem of three events and 60 minutes answers to the rule.
