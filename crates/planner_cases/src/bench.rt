@@ -1,10 +1,12 @@
 //! What the cases need: a bench to write books on, and what searches tell.
 use counting::{Counting, Shown};
-use example::wish;
+use example::{example_rules, rule, wish};
+use list_network::ListNetwork;
 use network::Network;
 use planner::{Draft, Search};
 use problem::{Constraint, Disjunct, Kind, Refusal};
 use search::Word;
+use square_network::SquareNetwork;
 use std::alloc::{AllocError, Global};
 use std::process::Abort;
 use std::test::Fail;
@@ -46,7 +48,7 @@ pub(crate) struct Bench<'a, A, N> {
 
 impl<'a, A: Abort, N: Network + Drop> Bench<'a, A, N> {
     /// A bench with a new draft.
-    pub(crate) fn new(rt: &'a A, heap: Global, network: N) -> Result<Bench<'a, A, N>, AllocError> {
+    fn new(rt: &'a A, heap: Global, network: N) -> Result<Bench<'a, A, N>, AllocError> {
         let draft = Draft::new(heap, network)?;
         Ok(Bench { rt, heap, draft })
     }
@@ -60,14 +62,20 @@ impl<'a, A: Abort, N: Network + Drop> Bench<'a, A, N> {
     }
 
     /// Puts a rule last, or tells why it is refused.
+    fn put(&mut self, rule: Constraint) -> Result<(), Refusal> {
+        self.draft
+            .adopt(rule)
+            .map_err(|unadopted| unadopted.refusal)
+    }
+
+    /// Puts a rule of this kind with these options last, or tells why it is refused.
     pub(crate) fn adopt(
         &mut self,
         kind: Kind,
         options: &[Disjunct],
     ) -> Result<Result<(), Refusal>, AllocError> {
-        let disjuncts = options.to_vec(self.heap)?;
-        let adopted = self.draft.adopt(Constraint { kind, disjuncts });
-        Ok(adopted.map_err(|unadopted| unadopted.refusal))
+        let rule = rule(self.heap, kind, options)?;
+        Ok(self.put(rule))
     }
 
     /// Puts a firm rule last, which must be granted.
@@ -78,6 +86,15 @@ impl<'a, A: Abort, N: Network + Drop> Bench<'a, A, N> {
     /// Puts a wish last, which costs so many points to give up and must be granted.
     pub(crate) fn wish(&mut self, points: u32, options: &[Disjunct]) -> Result<(), Fail> {
         Ok(self.adopt(wish(points), options)??)
+    }
+
+    /// Writes the example: two rounds of one hour, kept apart, with a wish for each.
+    pub(crate) fn example(&mut self) -> Result<(), Fail> {
+        self.day(3, 60)?;
+        for rule in example_rules(self.heap)? {
+            self.put(rule)?;
+        }
+        Ok(())
     }
 
     /// Closes the draft under the way, presses it to its end in so many steps, holds what it tells and its minutes
@@ -98,4 +115,14 @@ impl<'a, A: Abort, N: Network + Drop> Bench<'a, A, N> {
         let draft = search.reopen();
         Bench { rt, heap, draft }
     }
+}
+
+/// A bench with a list network, and a bench with a square network.
+pub(crate) fn benches<A: Abort>(
+    rt: &A,
+    heap: Global,
+) -> Result<(Bench<A, ListNetwork>, Bench<A, SquareNetwork>), AllocError> {
+    let list = Bench::new(rt, heap, ListNetwork::new())?;
+    let square = Bench::new(rt, heap, SquareNetwork::new(heap)?)?;
+    Ok((list, square))
 }

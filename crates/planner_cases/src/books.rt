@@ -1,12 +1,10 @@
 //! The small books: how many steps their searches take, and what these tell.
-use crate::bench::{Bench, Told};
+use crate::bench::{Bench, Told, benches};
 use counting::{Penalty, Sum, Tier, Worst};
 use example::gap;
-use list_network::ListNetwork;
 use network::Network;
 use problem::{Kind, Refusal};
 use search::Word;
-use square_network::SquareNetwork;
 use std::process::Abort;
 use std::test::Fail;
 
@@ -75,12 +73,14 @@ fn wishes<A: Abort, N: Network + Drop>(mut bench: Bench<A, N>) -> Result<(), Fai
 
 #[test]
 fn books_of_firm_rules_end_as_worked_out(rt: HostRuntime) -> Result<(), Fail> {
-    firm(Bench::new(&rt, rt.alloc(), ListNetwork::new())?)?;
-    firm(Bench::new(&rt, rt.alloc(), SquareNetwork::new(rt.alloc())?)?)
+    let (list, square) = benches(&rt, rt.alloc())?;
+    firm(list)?;
+    firm(square)
 }
 
 #[test]
 fn books_of_wishes_end_as_worked_out(rt: HostRuntime) -> Result<(), Fail> {
-    wishes(Bench::new(&rt, rt.alloc(), ListNetwork::new())?)?;
-    wishes(Bench::new(&rt, rt.alloc(), SquareNetwork::new(rt.alloc())?)?)
+    let (list, square) = benches(&rt, rt.alloc())?;
+    wishes(list)?;
+    wishes(square)
 }

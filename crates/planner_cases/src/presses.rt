@@ -1,23 +1,13 @@
 //! Presses: one step at a time and many at once, refusals, and what is told on the way.
-use crate::bench::{Bench, Told};
+use crate::bench::{Bench, Told, benches};
 use counting::Sum;
 use example::{gap, wish};
-use list_network::ListNetwork;
 use network::Network;
 use planner::Search;
 use problem::{Kind, Refusal};
 use search::Word;
-use square_network::SquareNetwork;
 use std::process::Abort;
 use std::test::Fail;
-
-/// The example: two rounds of one hour, kept apart, with a wish for each.
-fn write_example<A: Abort, N: Network + Drop>(bench: &mut Bench<A, N>) -> Result<(), Fail> {
-    bench.day(3, 60)?;
-    bench.firm(&[gap(1, 2, 15, 60, 0), gap(2, 1, 15, 60, 0)])?;
-    bench.wish(40, &[gap(2, 0, 0, 10, 0)])?;
-    bench.wish(30, &[gap(1, 0, 0, 5, 0), gap(1, 0, 6, 20, 10)])
-}
 
 /// A word and a cost in points, with nothing given up.
 fn word(word: Word, points: u32) -> Told {
@@ -26,7 +16,7 @@ fn word(word: Word, points: u32) -> Told {
 
 /// The six steps of the example, one at a time.
 fn step_by_step<A: Abort, N: Network + Drop>(mut bench: Bench<A, N>) -> Result<(), Fail> {
-    write_example(&mut bench)?;
+    bench.example()?;
     let Bench { rt, draft, .. } = bench;
     let mut search: Search<Sum, N> = draft.close();
     assert_eq!(rt; Told::by(&search), word(Word::Open, 0));
@@ -66,7 +56,7 @@ fn dearer_first<A: Abort, N: Network + Drop>(mut bench: Bench<A, N>) -> Result<(
 
 /// Any split of the same steps leads to the same answers.
 fn splits<A: Abort, N: Network + Drop>(mut bench: Bench<A, N>) -> Result<(), Fail> {
-    write_example(&mut bench)?;
+    bench.example()?;
     let Bench { rt, mut draft, .. } = bench;
     for first in 1..8u32 {
         let mut search: Search<Sum, N> = draft.close();
@@ -84,9 +74,10 @@ fn splits<A: Abort, N: Network + Drop>(mut bench: Bench<A, N>) -> Result<(), Fai
     Ok(())
 }
 
-/// Each refusal of a call on a draft or a search, and that the next call finds all as it was.
+/// Refusals of calls on a draft or a search, all but two, and that the next call finds all as it was. `cases` has the
+/// refusal of a rule after 32 (4) by a problem, and `step_by_step` that of an event that is not there (12).
 fn refusals<A: Abort, N: Network + Drop>(mut bench: Bench<A, N>) -> Result<(), Fail> {
-    write_example(&mut bench)?;
+    bench.example()?;
     let rt = bench.rt;
     assert_eq!(rt; bench.draft.set(33, 60), Err(Refusal::EventCount));
     assert_eq!(rt; bench.draft.set(3, 10_081), Err(Refusal::HorizonRange));
@@ -117,24 +108,28 @@ fn refusals<A: Abort, N: Network + Drop>(mut bench: Bench<A, N>) -> Result<(), F
 
 #[test]
 fn the_example_goes_step_by_step(rt: HostRuntime) -> Result<(), Fail> {
-    step_by_step(Bench::new(&rt, rt.alloc(), ListNetwork::new())?)?;
-    step_by_step(Bench::new(&rt, rt.alloc(), SquareNetwork::new(rt.alloc())?)?)
+    let (list, square) = benches(&rt, rt.alloc())?;
+    step_by_step(list)?;
+    step_by_step(square)
 }
 
 #[test]
 fn the_first_plan_may_be_dearer(rt: HostRuntime) -> Result<(), Fail> {
-    dearer_first(Bench::new(&rt, rt.alloc(), ListNetwork::new())?)?;
-    dearer_first(Bench::new(&rt, rt.alloc(), SquareNetwork::new(rt.alloc())?)?)
+    let (list, square) = benches(&rt, rt.alloc())?;
+    dearer_first(list)?;
+    dearer_first(square)
 }
 
 #[test]
 fn any_split_of_the_steps_is_the_same(rt: HostRuntime) -> Result<(), Fail> {
-    splits(Bench::new(&rt, rt.alloc(), ListNetwork::new())?)?;
-    splits(Bench::new(&rt, rt.alloc(), SquareNetwork::new(rt.alloc())?)?)
+    let (list, square) = benches(&rt, rt.alloc())?;
+    splits(list)?;
+    splits(square)
 }
 
 #[test]
 fn refused_calls_change_nothing(rt: HostRuntime) -> Result<(), Fail> {
-    refusals(Bench::new(&rt, rt.alloc(), ListNetwork::new())?)?;
-    refusals(Bench::new(&rt, rt.alloc(), SquareNetwork::new(rt.alloc())?)?)
+    let (list, square) = benches(&rt, rt.alloc())?;
+    refusals(list)?;
+    refusals(square)
 }
