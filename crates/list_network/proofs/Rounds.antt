@@ -1,5 +1,5 @@
 -- Limits relaxed one after another, and round after round.
-use Rattle.std.proofs.Common.{◌≡◌, ℕ, ◌+◌, ◌<◌, ◌≤◌, List, [], ◌∷◌, ◌++◌, length, get_or, take, Bor, sym, ◌∙◌, subst, arith}
+use Rattle.std.proofs.Common.{◌≡◌, ℕ, ◌+◌, ◌<◌, ◌≤◌, List, [], ◌∷◌, ◌++◌, length, get_or, take, Bor, refl, sym, ◌∙◌, subst, arith}
 use Rattle.std.specs.List.{AllByRecursion}
 use Rattle.std.proofs.ByRecursion.{All-append, All-take}
 use Rattle.std.proofs.lemmas.List.{take_all, take_more}
@@ -108,6 +108,11 @@ module _ (day : Day) (newest : Limit) (ls : List Limit) (i : ℕ) (ts ts₁ : Li
   round_ends past =
       let F : List Limit → Type 0 = λ ks. Acted day newest ks ts e ts₁ in
       subst F (take_all i ls past) g
+
+-- what does not raise a minute lets all rest
+pub rests : (e : Effect) → (e ≡ Raised → ⊥) → e ≡ Rest
+rests Rest other = refl
+rests Raised other = absurd (other refl)
 
 -- rounds from ts that are at ts₁ now
 module _ (day : Day) (newest : Limit) (ls : List Limit) (ts ts₁ : List ℕ) (r : Follows day newest ls ts ts₁) where

@@ -106,11 +106,7 @@ impl<'a> Relaxation<'a> {
     pub(crate) fn settle(&mut self) -> Result<(), Clash>
         ensures { Settled self.old result self.new.times }
     {
-        loop {
-            match self.round()? {
-                Effect::Rest => return Ok(()),
-                Effect::Raised => {}
-            }
-        }
+        while let Effect::Raised = self.round()? {}
+        Ok(())
     }
 }
