@@ -5,7 +5,7 @@ ghost use Rattle.problem.specs.Timetables.{OfDay, minute};
 ghost use Rattle.network.specs.Limits.{Lawful};
 
 use network::{Limit, LimitList};
-use problem::MAX_EVENTS;
+use problem::{MAX_EVENTS, Refusal};
 
 /// What limits did to the minutes.
 #[derive(Clone, Copy)]
@@ -34,6 +34,17 @@ impl Effect {
 /// No timetable of the day keeps all limits.
 #[derive(Clone, Copy)]
 pub(crate) struct Clash;
+
+impl From<Clash> for Refusal {
+    ghost use Rattle.std.specs.Prelude.{◌≡◌};
+    ghost use Rattle.problem.specs.declared.refusal.Refusal.TheVariants as refused;
+
+    ghost from_gives = { λ _ refusal. refusal ≡ refused.Clash };
+
+    fn from(_clash: Clash) -> Refusal {
+        Refusal::Clash
+    }
+}
 
 /// Minutes that rested under the limits until a newest one came, and are raised on its account.
 #[derive(Drop)]

@@ -35,9 +35,7 @@ impl Network for ListNetwork {
         check_limit(self.limits.day(), self.limits.len(), limit)?;
         let before = self.times[self.limits.len()];
         let mut relaxation = Relaxation::new(&self.limits, limit, before);
-        let Ok(()) = relaxation.settle() else {
-            return Err(Refusal::Clash);
-        };
+        relaxation.settle()?;
         self.times[self.limits.len() + 1] = relaxation.times;
         self.limits.push(limit)?;
         Ok(())

@@ -1,9 +1,9 @@
 use Rattle.std.proofs.Common.{◌≡◌, ◌∙◌, ℕ, ◌+◌, None, length, set, sym, ap, refl, inr}
 use Rattle.std.proofs.lemmas.List.{length-set}
+use Rattle.std.proofs.lemmas.Result.{err_from_is_err_and}
 use Rattle.problem.specs.Checks.{first_refusal}
 use Rattle.problem.specs.Timetables.{minute}
 use Rattle.problem.specs.declared.day.Day.{Day}
-use Rattle.problem.specs.declared.refusal.Refusal.TheVariants.{Clash}
 use Rattle.network.specs.Calls.{Clashing, Granted, refusal_before, with_limit}
 use Rattle.network.specs.Limits.{limit_checks}
 use Rattle.network.specs.Lists.{net_of}
@@ -20,17 +20,18 @@ checked : (s : ListNetwork) (day : Day) (count : ℕ) (l : Limit) → day ≡ s.
 checked s day count l same many passes =
     sym (passes ∙ (ap (λ d. first_refusal (limit_checks d count l)) same ∙ ap (λ k. first_refusal (limit_checks s.limits.day k l)) many))
 
-pub returns-in_default : goal.returns-in_default
-returns-in_default c =
+pub returns-in_err-settle : goal.returns-in_err-settle
+returns-in_err-settle c =
     let s = c.args.self.now in
     let l = c.args.limit in
     let begun = c.new-relaxation.ensures in
-    let clashing : Clashing (modelled s) l Clash = record {
+    let told = err_from_is_err_and c.from_residual-in_err-settle.result c.from_residual-in_err-settle.ensures.1 in
+    let clashing : Clashing (modelled s) l told.0 = record {
       passes = checked s _ _ l c.day.ensures c.len.ensures c.in_ok-check_limit.ensures;
-      clash = refl;
-      unsolvable = put_clashes s l c.new-relaxation.result (ap net_of begun.limits) begun.newest _ c.len-2.ensures begun.times c.settle.new.self.times c.in_default.ensures;
+      clash = told.2;
+      unsolvable = put_clashes s l c.new-relaxation.result (ap net_of begun.limits) begun.newest _ c.len-2.ensures begun.times c.settle.new.self.times c.in_err-settle.ensures;
     } in
-    (inr clashing, refl)
+    rw told.1 (inr clashing, refl)
 
 pub invariant_of-self : goal.invariant_of-self
 invariant_of-self c =
@@ -41,7 +42,7 @@ invariant_of-self c =
     let passes = checked s _ _ l c.day.ensures c.len.ensures c.in_ok-check_limit.ensures in
     let put : net_of c.push.new.self ≡ with_limit (modelled s) l = is_put (modelled s) _ l _ _ passes c.push.ensures.refused c.push.ensures.cases in
     let stacked : Stacked (net_of c.push.new.self) (set s.times (c.len-3.result + 1) times) =
-    put_stacked s l c.new-relaxation.result (ap net_of begun.limits) begun.newest _ c.len-2.ensures begun.times times c.in-Ok.ensures _ put _ c.len-3.ensures c.push.new.self.few in
+    put_stacked s l c.new-relaxation.result (ap net_of begun.limits) begun.newest _ c.len-2.ensures begun.times times c.in_ok-settle.ensures _ put _ c.len-3.ensures c.push.new.self.few in
     record { rows = simp length-set s.rows; stacked = search stacked }
 
 pub returns : goal.returns
@@ -52,7 +53,7 @@ returns c =
     let times = c.settle.new.self.times in
     let put : net_of c.push.new.self ≡ with_limit (modelled s) l = c.in_ok-push.ensures.cases in
     let smallest : Smallest (net_of c.push.new.self) times =
-    put_smallest s l c.new-relaxation.result (ap net_of begun.limits) begun.newest _ c.len-2.ensures begun.times times c.in-Ok.ensures _ put in
+    put_smallest s l c.new-relaxation.result (ap net_of begun.limits) begun.newest _ c.len-2.ensures begun.times times c.in_ok-settle.ensures _ put in
     let granted : Granted (modelled s) l (net_of c.push.new.self) =
     record { passes = sym c.in_ok-push.ensures.refused; becomes = put; solvable = (minute times, smallest.solves) } in
     search granted
