@@ -89,8 +89,8 @@ impl<'a> Relaxation<'a> {
         ensures same { SameLimits self.old self.new }
         ensures times { Relaxed self.old (limit ∷ []) result self.new.times }
     {
-        let least = self.times[limit.x] as i32 - limit.bound;
-        if least <= self.times[limit.y] as i32 {
+        let least = i32::from(self.times[limit.x]) - limit.bound;
+        if least <= i32::from(self.times[limit.y]) {
             return Ok(Effect::Rest);
         }
         let horizon = self.limits.day().horizon() as i32;

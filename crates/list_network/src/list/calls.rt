@@ -49,6 +49,6 @@ impl Network for ListNetwork {
         if event >= self.limits.day().events() {
             return Err(Refusal::NoSuchEvent);
         }
-        Ok(self.times[self.limits.len()][event] as u32)
+        Ok(u32::from(self.times[self.limits.len()][event]))
     }
 }

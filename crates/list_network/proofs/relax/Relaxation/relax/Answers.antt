@@ -8,8 +8,8 @@ use Rattle.list_network.proofs.Relaxing.{small, raised, stuck}
 use Rattle.list_network.proofs.relax.Relaxation.relax.Goals as goal
 use Rattle.list_network.proofs.relax.Relaxation.relax.Goals.{then-limit-eq0-via-then-limit-eq0, then-limit-eq0-via-else-limit-eq0+then-limit-self, then-limit-eq0-via-else-limit-eq0+else-limit-self+then-least-horizon}
 
-pub returns-then-least-self-clause-times : goal.returns-then-least-self-clause-times
-returns-then-least-self-clause-times c =
+pub returns-then-least-from-clause-times : goal.returns-then-least-from-clause-times
+returns-then-least-from-clause-times c =
     let s = c.args.self.now in
     let limit = c.args.limit in
     let near = small s.limits.now.day limit s.times c.requires s.timetable in

@@ -1,6 +1,5 @@
-use Rattle.std.proofs.Common.{◌≡◌, ◌<◌, [], length, get_or, refl, arith}
+use Rattle.std.proofs.Common.{◌≡◌, ◌<◌, [], length, get_or, arith}
 use Rattle.problem.specs.Timetables.{minute}
-use Rattle.network.specs.Nets.{Earliest}
 use Rattle.list_network.specs.Held.{newest}
 use Rattle.list_network.specs.Model.{modelled}
 use Rattle.list_network.proofs.Stack.{earliest}
@@ -13,6 +12,6 @@ returns c =
     let events : c.events.result ≡ s.limits.day.events = cc in
     let inside : event < s.limits.day.events = omega arith in
     let row = get_or s.times (length (modelled s).limits) [] in
-    let told : Earliest (modelled s) event (minute row event) = earliest (modelled s) row (newest s) event _ refl in
     let at : c.len.result ≡ length (modelled s).limits = c.len.ensures in
-    (inside, rw at (search told))
+    let is : c.from.result ≡ minute row event = cc in
+    (inside, earliest (modelled s) row (newest s) event _ is)
