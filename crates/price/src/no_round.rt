@@ -1,6 +1,5 @@
 //! Why a line states no round of the day.
 use problem::{Day, Flaw};
-use rounds::RoundFault;
 use std::fmt;
 
 /// Why a line states no round of the day.
@@ -8,16 +7,10 @@ use std::fmt;
 pub(crate) enum NoRound {
     TooLong,
     Empty,
-    /// Its text states no minutes.
-    Fault(RoundFault),
+    /// The text for the minute of this event is no number.
+    NotANumber { event: usize },
     /// Its minutes are no timetable of the day.
     NoTimetable { day: Day, flaw: Flaw },
-}
-
-impl From<RoundFault> for NoRound {
-    fn from(fault: RoundFault) -> NoRound {
-        NoRound::Fault(fault)
-    }
 }
 
 impl fmt::Display for NoRound {
@@ -25,7 +18,7 @@ impl fmt::Display for NoRound {
         match self {
             NoRound::TooLong => write!(f, "it is too long"),
             NoRound::Empty => write!(f, "it is empty"),
-            NoRound::Fault(fault) => write!(f, "{fault}"),
+            NoRound::NotANumber { event } => write!(f, "the minute of event {event} is no number"),
             NoRound::NoTimetable { day, flaw } => write_flaw(f, *day, *flaw),
         }
     }

@@ -3,26 +3,17 @@ use crate::no_round::NoRound;
 use costing::{Objection, cost_of};
 use counting::{Counting, Shown, Sum, Tier, Worst};
 use problem::Problem;
-use rounds::read_round;
+use rounds::{RoundFault, read_round};
 use std::alloc::Global;
-use std::fmt;
 
-/// What a round costs under one way of counting.
+/// This firm rule forbids the round.
 #[derive(Clone, Copy)]
-pub(crate) enum Price {
-    Cost(Shown),
-    /// This firm rule forbids it.
-    Forbidden { rule: usize },
+pub(crate) struct Forbidden {
+    pub(crate) rule: usize,
 }
 
-impl fmt::Display for Price {
-    fn fmt<W: fmt::Write>(&self, f: &mut fmt::Formatter<W>) -> fmt::Result {
-        match self {
-            Price::Cost(shown) => write!(f, "{shown}"),
-            Price::Forbidden { rule } => write!(f, "rule {rule} forbids it"),
-        }
-    }
-}
+/// What a round costs under one way of counting, as shown.
+pub(crate) type Price = Result<Shown, Forbidden>;
 
 /// What a round costs under each way of counting.
 #[derive(Clone, Copy)]
@@ -32,11 +23,35 @@ pub(crate) struct Prices {
     pub(crate) tier: Price,
 }
 
+/// Why a line has no prices.
+#[derive(Clone, Copy)]
+pub(crate) enum Unpriced {
+    /// It states no round of the day.
+    NoRound(NoRound),
+    /// Memory ran out.
+    NoMemory,
+}
+
+impl From<NoRound> for Unpriced {
+    fn from(reason: NoRound) -> Unpriced {
+        Unpriced::NoRound(reason)
+    }
+}
+
+impl From<RoundFault> for Unpriced {
+    fn from(fault: RoundFault) -> Unpriced {
+        match fault {
+            RoundFault::NotANumber { event } => Unpriced::NoRound(NoRound::NotANumber { event }),
+            RoundFault::NoMemory => Unpriced::NoMemory,
+        }
+    }
+}
+
 /// What the minutes cost under one way of counting.
 fn priced<W: Counting>(problem: &Problem, minutes: &[u32]) -> Result<Price, NoRound> {
     match cost_of::<W>(problem, minutes) {
-        Ok(cost) => Ok(Price::Cost(cost.shown())),
-        Err(Objection::Forbidden { rule }) => Ok(Price::Forbidden { rule }),
+        Ok(cost) => Ok(Ok(cost.shown())),
+        Err(Objection::Forbidden { rule }) => Ok(Err(Forbidden { rule })),
         Err(Objection::NoTimetable(flaw)) => Err(NoRound::NoTimetable {
             day: problem.day(),
             flaw,
@@ -49,10 +64,10 @@ pub(crate) fn price_round(
     heap: Global,
     problem: &Problem,
     text: Option<&[u8]>,
-) -> Result<Prices, NoRound> {
+) -> Result<Prices, Unpriced> {
     let text = text.ok_or(NoRound::TooLong)?;
     if text.is_empty() {
-        return Err(NoRound::Empty);
+        return Err(NoRound::Empty.into());
     }
     let minutes = read_round(heap, text)?;
     Ok(Prices {
