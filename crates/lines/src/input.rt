@@ -25,9 +25,7 @@ impl<R: Read + Drop> Iterator for Lines<R> {
 
     /// Takes the next line, or answers `None` when none is left.
     fn next(&mut self) -> Option<io::Result<Line>> {
-        let Some(bytes) = &mut self.bytes else {
-            return None;
-        };
+        let bytes = self.bytes.as_mut()?;
         while let Some(byte) = bytes.next() {
             match byte {
                 Ok(b'\n') => return Some(Ok(self.line.advance())),

@@ -43,10 +43,10 @@ impl Line {
         ensures text { text_of self.new ≡ extended (text_of self.old) byte }
         ensures number { self.new.number ≡ self.old.number }
     {
-        if let Some(text) = &mut self.text {
-            if text.try_push(byte).is_err() {
-                self.text = None;
-            }
+        if let Some(text) = &mut self.text
+            && text.try_push(byte).is_err()
+        {
+            self.text = None;
         }
     }
 
