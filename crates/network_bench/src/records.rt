@@ -18,16 +18,18 @@ impl From<Record> for Call {
         let Record([code, x, y, low, high]) = record;
         match code {
             0 => Call::Reset {
-                events: x as usize,
-                horizon: u16::from_le_bytes([low, high]) as u32,
+                events: usize::from(x),
+                horizon: u32::from(u16::from_le_bytes([low, high])),
             },
             1 => Call::Push(Limit {
-                x: x as usize,
-                y: y as usize,
-                bound: i16::from_le_bytes([low, high]) as i32,
+                x: usize::from(x),
+                y: usize::from(y),
+                bound: i32::from(i16::from_le_bytes([low, high])),
             }),
             2 => Call::Pop,
-            _ => Call::Earliest { event: x as usize },
+            _ => Call::Earliest {
+                event: usize::from(x),
+            },
         }
     }
 }

@@ -28,7 +28,7 @@ fn run_once<N: Network>(network: &mut N, script: &[[u8; RECORD_SIZE]], before: u
     let mut checksum = before;
     for bytes in script {
         let number = answer(network, Call::from(Record(*bytes)));
-        checksum = checksum.wrapping_mul(31).wrapping_add(number as u64);
+        checksum = checksum.wrapping_mul(31).wrapping_add(u64::from(number));
     }
     checksum
 }
