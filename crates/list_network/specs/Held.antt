@@ -5,6 +5,7 @@ use Rattle.std.proofs.lemmas.List.{take_all}
 use Rattle.problem.specs.Timetables.{minute}
 use Rattle.network.specs.Nets.{Net, Sound}
 use Rattle.network.specs.declared.limit.Limit.{Limit}
+use Rattle.network.proofs.Lists.{few_limits}
 use Rattle.list_network.specs.Model.{modelled}
 use Rattle.list_network.specs.Smallest.{Smallest, beginning}
 use Rattle.list_network.specs.declared.list.ListNetwork.{ListNetwork}
@@ -21,6 +22,6 @@ newest s =
 pub sound : (s : ListNetwork) → Sound (modelled s)
 sound s = record {
   lawful = s.limits.lawful;
-  few = s.limits.few;
+  few = few_limits s.limits;
   solvable = (minute (slice_index_or s.times (length (modelled s).limits) []), (newest s).solves);
 }

@@ -1,2 +1,3 @@
 pub mod Taken
 pub mod Solutions
+pub mod Lists

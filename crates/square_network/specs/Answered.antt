@@ -10,6 +10,7 @@ use Rattle.problem.specs.declared.day.Day.{Day}
 use Rattle.network.specs.Limits.{Lawful, Keeps}
 use Rattle.network.specs.Nets.{Solves, Earliest, Sound}
 use Rattle.network.specs.declared.limit.Limit.{Limit}
+use Rattle.network.proofs.Lists.{few_limits}
 use Rattle.network.proofs.Taken.{lawful_x, lawful_y}
 use Rattle.square_network.specs.Distances.{Square, at, Zeros, Triangle, Starts, Ends}
 use Rattle.square_network.specs.Model.{modelled}
@@ -85,6 +86,6 @@ solvable day ls lawful (d ∷ ds) each held =
 pub sound : (s : SquareNetwork) → Sound (modelled s)
 sound s = record {
   lawful = s.limits.lawful;
-  few = s.limits.few;
+  few = few_limits s.limits;
   solvable = solvable s.limits.day (modelled s).limits s.limits.lawful (vec_items s.tables) (omega arith) s.held;
 }

@@ -8,6 +8,7 @@ use Rattle.network.specs.Calls.{Clashing, Granted, refusal_before, with_limit}
 use Rattle.network.specs.Limits.{limit_checks}
 use Rattle.network.specs.Lists.{net_of}
 use Rattle.network.specs.declared.limit.Limit.{Limit}
+use Rattle.network.proofs.Lists.{few_limits}
 use Rattle.list_network.specs.declared.list.ListNetwork.{ListNetwork}
 use Rattle.list_network.specs.Model.{modelled}
 use Rattle.list_network.specs.Smallest.{Smallest, Stacked}
@@ -42,7 +43,7 @@ invariant_of-self c =
     let passes = checked s _ _ l c.day.ensures c.len.ensures c.in_ok-check_limit.ensures in
     let put : net_of c.push.new.self ≡ with_limit (modelled s) l = is_put (modelled s) _ l _ _ passes c.push.ensures.refused c.push.ensures.cases in
     let stacked : Stacked (net_of c.push.new.self) (set s.times (c.len-3.result + 1) times) =
-    put_stacked s l c.new-relaxation.result (ap net_of begun.limits) begun.newest _ c.len-2.ensures begun.times times c.in_ok-settle.ensures _ put _ c.len-3.ensures c.push.new.self.few in
+    put_stacked s l c.new-relaxation.result (ap net_of begun.limits) begun.newest _ c.len-2.ensures begun.times times c.in_ok-settle.ensures _ put _ c.len-3.ensures (few_limits c.push.new.self) in
     record { rows = simp length-set s.rows; stacked = search stacked }
 
 pub returns : goal.returns
