@@ -12,6 +12,5 @@ returns c =
     let events : c.events.result ≡ s.limits.day.events = cc in
     let inside : event < s.limits.day.events = omega arith in
     let row = get_or s.times (length (modelled s).limits) [] in
-    let at : c.len.result ≡ length (modelled s).limits = c.len.ensures in
-    let is : c.from.result ≡ minute row event = cc in
+    let is : c.from.result ≡ minute row event = grind arith in
     (inside, earliest (modelled s) row (newest s) event _ is)
