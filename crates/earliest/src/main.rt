@@ -54,7 +54,7 @@ fn run(rt: &HostRuntime) -> anyhow::Result<()> {
     let list = ListNetwork::new();
     let square = SquareNetwork::new(rt.alloc())?;
     let mut pair = Pair { list, square };
-    for line in read_lines(rt)? {
+    for line in read_lines(rt) {
         pair.answer(rt, &line?)?;
     }
     Ok(())

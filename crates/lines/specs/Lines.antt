@@ -1,48 +1,48 @@
 -- The lines of a reader, one after the other.
 --   lines_left   how many lines may still come
 --   AtStart      the reader is there, and its first line has no byte yet
---   line_feed    the byte that ends a line
 --   unread       what is still to be read, where that is known
---   grown        a text with each byte up to the first line feed
 --   CutsLine     a line is what stands before the first line feed, and what stands behind it is still to be read
+--   Finishes     the line that is being read comes last, where it has a byte
 --   TellsInTurn  what a call hands out is the line that was being read, and the next line is begun behind it
-use Rattle.std.specs.Prelude.{◌≡◌, ℕ, ◌+◌, ◌-◌, ◌^◌, min, cond, List, [], ◌∷◌, Some, None, Ok, Err, Option, Result, IsSome, IsNone, IfSome, ◌==◌}
+use Rattle.std.specs.Prelude.{◌≡◌, ℕ, ◌+◌, ◌-◌, ◌^◌, min, true, false, List, [], Some, None, Ok, Err, Option, Result, IsSome, IsNone, IfSome}
 use Rattle.std.specs.Option.{option_map_or}
 use Rattle.std.specs.Iterator.{Count, at_most}
-use Rattle.std.specs.Io.Iter.{bytes_left, bytes_remaining}
-use Rattle.std.specs.Io.Buffered.{reader_remaining}
 use Rattle.std.specs.Io.BufRead.{drop_through}
 use Rattle.std.specs.Io.KnownBytes.{IsAtEnd}
 use Rattle.std.specs.declared.io.Error.{Error}
 use Rattle.lines.specs.declared.line.Line.{Line}
 use Rattle.lines.specs.declared.input.Lines.{Lines}
-use Rattle.lines.specs.Line.{text_of, extended}
+use Rattle.lines.specs.Line.{text_of, begun}
+use Rattle.lines.specs.Source.{line_feed, known_left, grown}
 
--- each byte that comes may end a line, and the reader's end may end one more
+-- each turn may end a line, and the reader's end may end one more
 abbrev pub lines_left : {R : Type 0} → Lines R → Count
-lines_left lines = at_most (option_map_or (λ bytes. bytes_left bytes + 1) lines.bytes 0)
+lines_left lines = at_most (option_map_or (λ source. source.turns + 1) lines.source 0)
 
 -- the reader is there, and its first line has no byte yet
 abbrev pub AtStart : {R : Type 0} → Lines R → Type 0
-AtStart lines = IsSome lines.bytes × (lines.line.number ≡ 1) × (text_of lines.line ≡ Some [])
-
--- the byte that ends a line
-abbrev pub line_feed : ℕ
-line_feed = 10
+AtStart lines = IsSome lines.source × (lines.line.number ≡ 1) × (text_of lines.line ≡ Some [])
 
 -- the bytes that are still to be read, where the reader's are known, and none once it has ended
 abbrev pub unread : {R : Type 0} → (R → Option (List ℕ)) → Lines R → Option (List ℕ)
-unread remaining lines = option_map_or (bytes_remaining (reader_remaining remaining)) lines.bytes (Some [])
+unread remaining lines = option_map_or (known_left remaining) lines.source (Some [])
 
--- the text with each of the bytes up to the first line feed, or with all of them where there is none
-abbrev pub grown : Option (List ℕ) → List ℕ → Option (List ℕ)
-grown text [] = text
-grown text (byte ∷ bytes) = cond (byte == line_feed) text (grown (extended text byte) bytes)
-
--- the line has the text that was begun, up to the first line feed, and what stands behind that is still to be read
+-- the line has the text that was begun, up to the first line feed, and what stands behind that is still to be read; a
+-- text with no byte comes only where something is left
 abbrev pub CutsLine : Option (List ℕ) → Option (List ℕ) → Line → Option (List ℕ) → Type 0
 CutsLine begun_text unread_before line unread_after =
-    IfSome unread_before (λ bytes. (text_of line ≡ grown begun_text bytes) × (unread_after ≡ Some (drop_through line_feed bytes)))
+    IfSome unread_before (λ bytes. (text_of line ≡ grown begun_text bytes)
+    × (unread_after ≡ Some (drop_through line_feed bytes))
+    × (bytes ≡ [] → begun begun_text ≡ true))
+
+-- with its number and its text; and nothing is left to be read
+abbrev pub Finishes : {R : Type 0} → Lines R → Option (Result Line Error) → Lines R → Type 0
+Finishes before (Some (Ok line)) after =
+    (begun (text_of before.line) ≡ true) × IsNone after.source × (line ≡ before.line)
+    × (after.line.number ≡ min (before.line.number + 1) (2 ^ 64 - 1)) × (text_of after.line ≡ Some [])
+Finishes before (Some (Err error)) after = ⊥
+Finishes before None after = (begun (text_of before.line) ≡ false) × IsNone after.source × (after.line ≡ before.line)
 
 -- a line that comes is the one that was being read, by its number and its text, and the next one is begun behind it; none
 -- comes once nothing is left; and at a failure of the reader the line keeps its number
@@ -53,4 +53,4 @@ TellsInTurn remaining before (Some (Ok line)) after =
     × (after.line.number ≡ min (before.line.number + 1) (2 ^ 64 - 1))
     × (text_of after.line ≡ Some [])
 TellsInTurn remaining before (Some (Err error)) after = after.line.number ≡ before.line.number
-TellsInTurn remaining before None after = IsAtEnd (unread remaining before) × IsNone after.bytes × (after.line.number ≡ before.line.number)
+TellsInTurn remaining before None after = IsAtEnd (unread remaining before) × IsNone after.source × (after.line.number ≡ before.line.number)

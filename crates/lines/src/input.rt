@@ -1,17 +1,16 @@
 //! Standard input, cut into lines.
-ghost use Rattle.std.specs.Prelude.{◌≡◌, IfOk, IfErr};
-ghost use Rattle.std.specs.IoError.{error_kind};
-ghost use Rattle.lines.specs.Lines.{lines_left, AtStart, TellsInTurn};
+ghost use Rattle.lines.specs.Lines.{lines_left, AtStart, Finishes, TellsInTurn};
 
 use crate::line::Line;
+use crate::source::Source;
 use std::io;
-use std::io::{BufReader, Bytes, ErrorKind, Read, Stdin};
+use std::io::{Read, Stdin};
 
 /// The lines of a reader, one after the other; the last one may lack its line feed.
 #[derive(Drop)]
 pub struct Lines<R> {
     /// What is still to be read, or `None` once the reader has ended.
-    bytes: Option<Bytes<BufReader<R>>>,
+    source: Option<Source<R>>,
     /// The line that is being read.
     line: Line,
 }
@@ -25,15 +24,32 @@ impl<R: Read + Drop> Iterator for Lines<R> {
 
     /// Takes the next line, or answers `None` when none is left.
     fn next(&mut self) -> Option<io::Result<Line>> {
-        let bytes = self.bytes.as_mut()?;
-        while let Some(byte) = bytes.next() {
-            match byte {
-                Ok(b'\n') => return Some(Ok(self.line.advance())),
-                Ok(byte) => self.line.add(byte),
+        let source = self.source.as_mut()?;
+        while source.turns > 0 {
+            if let Err(error) = source.take_turn() {
+                return Some(Err(error));
+            }
+            if source.take_line(&mut self.line) {
+                return Some(Ok(self.line.advance()));
+            }
+            match source.read_chunk() {
+                Ok(true) => {}
+                Ok(false) => break,
                 Err(error) => return Some(Err(error)),
             }
         }
-        self.bytes = None;
+        self.finish()
+    }
+}
+
+impl<R> Lines<R> {
+    /// Ends the reading. The line that is being read comes last, where it has a byte.
+    fn finish(&mut self) -> Option<io::Result<Line>>
+    where
+        R: Drop,
+        ensures { Finishes self.old result self.new }
+    {
+        self.source = None;
         if self.line.is_begun() {
             Some(Ok(self.line.advance()))
         } else {
@@ -42,14 +58,12 @@ impl<R: Read + Drop> Iterator for Lines<R> {
     }
 }
 
-/// The lines of standard input. Fails only for want of memory. No contract can say what is read.
-pub fn read_lines(rt: &HostRuntime) -> io::Result<Lines<Stdin>>
-    ensures lines { IfOk result AtStart }
-    ensures memory { IfErr result (λ error. error_kind error ≡ ErrorKind.OutOfMemory) }
+/// The lines of standard input. No contract can say what is read.
+pub fn read_lines(rt: &HostRuntime) -> Lines<Stdin>
+    ensures { AtStart result }
 {
-    let input = BufReader::new(rt.alloc(), rt.stdin())?;
-    Ok(Lines {
-        bytes: Some(input.bytes()),
+    Lines {
+        source: Some(Source::new(rt.stdin())),
         line: Line::new(),
-    })
+    }
 }

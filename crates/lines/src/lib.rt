@@ -3,6 +3,7 @@
 
 mod input;
 mod line;
+mod source;
 
 pub use input::{Lines, read_lines};
 pub use line::{Line, MAX_LINE};

@@ -37,7 +37,7 @@ fn price_line(rt: &HostRuntime, problem: &Problem, line: &Line) -> anyhow::Resul
 /// Prices every line of standard input against the example.
 fn run(rt: &HostRuntime) -> anyhow::Result<()> {
     let problem = example_problem(rt.alloc())?;
-    for line in read_lines(rt)? {
+    for line in read_lines(rt) {
         price_line(rt, &problem, &line?)?;
     }
     Ok(())
