@@ -1,9 +1,12 @@
 -- Checks that all pass, as the rules of a problem do.
 use Rattle.std.proofs.Common.{◌≡◌, Bool, true, false, cond, List, [], ◌∷◌, ◌++◌, Some, None, Option, refl, ap, ◌∙◌}
-use Rattle.std.specs.List.{flat_map, AllByRecursion}
+use Rattle.std.specs.List.{flat_map, All, AllByRecursion}
+use Rattle.std.proofs.ByRecursion.{All-get_or}
 use Rattle.std.proofs.lemmas.Bool.{and_from, and_parts, false≢true}
+use Rattle.problem.specs.declared.day.Day.{Day}
 use Rattle.problem.specs.declared.refusal.Refusal.{Refusal}
-use Rattle.problem.specs.Checks.{Check, first_refusal, passes}
+use Rattle.problem.specs.Checks.{Check, first_refusal, passes, kind_checks, disjunct_checks, rule_checks}
+use Rattle.problem.specs.Rules.{Rule}
 
 -- nothing is refused, so the first check holds and the others refuse nothing
 pub held : (t : Bool) (o : Option Refusal) (e : Refusal) → None ≡ cond t o (Some e) → (t ≡ true) × (None ≡ o)
@@ -45,3 +48,9 @@ module _ {X : Type 0} (f : X → List Check) where
   pub passes_each : (xs : List X) → passes (flat_map f xs) ≡ true → AllByRecursion (λ x. passes (f x) ≡ true) xs
   passes_each [] h = tt
   passes_each (x ∷ xs) h = let p = passes_parts (f x) (flat_map f xs) h in (p.0, passes_each xs p.1)
+
+-- the options of a rule that fits the day do
+pub options_fit : (day : Day) (r : Rule) → passes (rule_checks day r) ≡ true → All (λ d. passes (disjunct_checks day d) ≡ true) r.options
+options_fit day r h =
+    let options = (passes_parts (kind_checks r.kind) (flat_map (disjunct_checks day) r.options) (and_parts _ _ h).1).1 in
+    λ k d l. All-get_or (λ x. passes (disjunct_checks day x) ≡ true) r.options k d l (passes_each (disjunct_checks day) r.options options)

@@ -59,4 +59,11 @@ impl<'a> Timetable<'a> {
     {
         self.minutes.get(event).copied().unwrap_or(0)
     }
+
+    /// The minutes, in the order of the events.
+    pub fn minutes(&self) -> &[u32]
+        ensures { result.now ≡ self.now.minutes.now }
+    {
+        self.minutes
+    }
 }

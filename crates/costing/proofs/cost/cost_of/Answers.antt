@@ -1,12 +1,20 @@
-use Rattle.std.proofs.Common.{arith, ◌≡◌, subst, map, rules}
+use Rattle.std.proofs.Common.{arith, ◌≡◌, true, sym, subst, map, rules}
 use Rattle.std.proofs.lemmas.List.{take_all}
+use Rattle.problem.specs.Checks.{passes, rule_checks}
 use Rattle.problem.specs.Costs.{Least}
 use Rattle.problem.specs.Rules.{rule_of}
 use Rattle.problem.specs.Timetables.{minute, choices}
 use Rattle.costing.specs.Cheapest.{gives, Unmet}
-use Rattle.costing.proofs.Answering.{timetable_of, answers_cost, answers_rule}
+use Rattle.costing.proofs.Answering.{timetable_of, rule_fits, answers_cost, answers_rule}
 use Rattle.costing.proofs.Totals.{costs_more, first_unmet}
 use Rattle.costing.proofs.cost.cost_of.Goals as goal
+
+pub rule_cost-requires : goal.rule_cost-requires
+rule_cost-requires g c =
+    let p = c.args.problem.now in
+    let day : c.in_ok-timetable.timetable.day ≡ p.day = search rules in
+    subst (λ d. passes (rule_checks d (rule_of c.rule-item.result)) ≡ true) (sym day)
+    (rule_fits p c.rules-rule-items.result.now c.loop-number.number c.rule-item.result c.rules-rule-items.ensures c.loop-number-test.true c.rule-item.is)
 
 pub loop-number-preserved : goal.loop-number-preserved
 loop-number-preserved g c =

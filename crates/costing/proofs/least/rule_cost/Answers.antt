@@ -1,8 +1,12 @@
 use Rattle.std.proofs.Common.{◌≡◌, None, rules}
 use Rattle.problem.specs.Rules.{rule_of}
+use Rattle.problem.proofs.Fit.{options_fit}
 use Rattle.costing.specs.Cheapest.{gives, lesser, met_costs, least_cost}
 use Rattle.costing.proofs.Cheaper.{cheapest_firm, cheapest_wish}
 use Rattle.costing.proofs.least.rule_cost.Goals as goal
+
+pub least_met-least-requires : goal.least_met-least-requires
+least_met-least-requires g c = rw c.as_slice.ensures.value (options_fit c.args.timetable.now.day (rule_of c.args.rule.now) c.requires)
 
 pub returns-in-Firm : goal.returns-in-Firm
 returns-in-Firm g c =
