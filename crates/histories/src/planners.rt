@@ -1,5 +1,5 @@
 //! A planner in either state, and making one call on it.
-ghost use Rattle.std.specs.Prelude.{◌≢◌};
+ghost use Rattle.std.specs.Prelude.{◌≡◌, ◌≢◌, MatchResult};
 ghost use Rattle.histories.specs.declared.calls.Call.{Call};
 ghost use Rattle.histories.specs.Histories.{Means};
 ghost use Rattle.histories.specs.Views.{draft_view, search_view, view_of};
@@ -44,6 +44,18 @@ fn on_search<W: Counting, N: Network>(search: &mut Search<W, N>, call: Call) -> 
 }
 
 impl<W: Counting, N: Network> Planner<W, N> {
+    /// Makes the call in place where it leaves the planner in its state. Else hands it back, and changes nothing.
+    pub(crate) fn apply_in_place(&mut self, call: Call) -> Result<Answer<W>, Call>
+        ensures { MatchResult result (λ answer. Means W.Counting.way call (view_of self.old) (view_of self.new) answer) (λ back. (back ≡ call) × (self.new ≡ self.old)) }
+    {
+        match (self, call) {
+            (Planner::Draft(_), Call::Close) => Err(Call::Close),
+            (Planner::Search(_), Call::Reopen) => Err(Call::Reopen),
+            (Planner::Draft(draft), call) => Ok(on_draft(draft, call)),
+            (Planner::Search(search), call) => Ok(on_search(search, call)),
+        }
+    }
+
     /// Makes the call, and answers it. A call that does not belong to the planner's state is handed back, and changes
     /// nothing.
     pub fn apply(self, call: Call) -> (Planner<W, N>, Answer<W>)

@@ -45,9 +45,14 @@ pub fn replay<W: Counting, N: Network + Drop>(
     let mut planner: Planner<W, N> = Planner::Draft(Draft::new(heap, network)?);
     let mut answers = Vec::new(heap);
     for call in calls {
-        let (next, answer) = planner.apply(call);
-        planner = next;
-        answers.push(answer)?;
+        match planner.apply_in_place(call) {
+            Ok(answer) => answers.push(answer)?,
+            Err(call) => {
+                let (next, answer) = planner.apply(call);
+                planner = next;
+                answers.push(answer)?;
+            }
+        }
     }
     Ok(Replayed { planner, answers })
 }
