@@ -1,5 +1,5 @@
 //! Putting the limits of choices on a network, and taking them off again.
-ghost use Rattle.std.specs.Prelude.{◌≡◌, ◌+◌, ◌<◌, ◌≤◌, min, true, List, [], ◌∷◌, ◌++◌, length, take, neg_ℤ, MatchResult};
+ghost use Rattle.std.specs.Prelude.{◌≡◌, ◌+◌, ◌<◌, ◌≤◌, min, max, true, List, [], ◌∷◌, ◌++◌, length, take, neg_ℤ, MatchResult};
 ghost use Rattle.std.specs.List.{AllByRecursion};
 ghost use Rattle.problem.specs.Checks.{in_range};
 ghost use Rattle.problem.specs.Timetables.{Choice};
@@ -71,6 +71,7 @@ impl<W, N: Network> Cursor<'_, W, N> {
         requires stands { Stands selection self.old.depth (N.Network.net self.old.network.now) }
         ensures stands { Stands selection.entry self.new.depth (N.Network.net self.new.network.now) }
         ensures cases { MatchResult result (λ _. i < self.new.depth) (λ _. Feasible selection.entry.problem.now.day (rules_in selection.entry) (take (i + 1) selection.entry.choices.now) → ⊥) }
+        ensures depth { MatchResult result (λ _. self.new.depth ≡ max (i + 1) self.old.depth) (λ _. self.new.depth ≡ max i self.old.depth) }
         ensures best { self.new.best ≡ self.old.best }
     {
         if i < self.depth {
