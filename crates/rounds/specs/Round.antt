@@ -6,7 +6,8 @@
 -- Refuses     what a fault says of the line
 -- OneRound    no two lists of minutes are stated by one line
 -- NoRound     a line with a first fault states no minutes
-use Rattle.std.specs.Prelude.{◌≡◌, ℕ, ◌<◌, List, [], map, length, decimal, slice_index_or}
+-- fault_text  what is printed of a fault
+use Rattle.std.specs.Prelude.{◌≡◌, ℕ, ◌<◌, List, [], ◌++◌, codes, map, length, decimal, slice_index_or}
 use Rattle.std.specs.List.{AllByRecursion}
 use Rattle.fields.specs.Fields.{parts, joined}
 use Rattle.fields.specs.Numbers.{Short, Writes}
@@ -41,3 +42,8 @@ OneRound = (line these those : List ℕ) → States line these → States line t
 -- no minutes are stated by a line in which an event's field writes no number
 abbrev pub NoRound : Type 0
 NoRound = (line minutes : List ℕ) (event : ℕ) → FirstFault line event → States line minutes → ⊥
+
+-- which minute is no number, or that memory ran out
+abbrev pub fault_text : RoundFault → List ℕ
+fault_text (NotANumber event) = codes "the minute of event " ++ decimal event ++ codes " is no number"
+fault_text NoMemory = codes "out of memory"

@@ -1,6 +1,6 @@
 //! A round as a line of text states it: a minute for each event, in event order, with commas between.
-ghost use Rattle.std.specs.Prelude.{◌≡◌, MatchResult};
-ghost use Rattle.rounds.specs.Round.{States, Refuses, OneRound, NoRound};
+ghost use Rattle.std.specs.Prelude.{◌≡◌, Some, MatchResult};
+ghost use Rattle.rounds.specs.Round.{States, Refuses, OneRound, NoRound, fault_text};
 ghost use Rattle.rounds.specs.declared.reading.RoundFault.TheVariants.{NoMemory};
 
 use fields::{Fields, IllFormed, natural};
@@ -17,7 +17,10 @@ pub enum RoundFault {
     NoMemory,
 }
 
+/// Which minute is no number, or that memory ran out.
 impl fmt::Display for RoundFault {
+    ghost output = { λ fault. Some (fault_text fault) };
+
     fn fmt<W: fmt::Write>(&self, f: &mut fmt::Formatter<W>) -> fmt::Result {
         match self {
             Self::NotANumber { event } => write!(f, "the minute of event {event} is no number"),
