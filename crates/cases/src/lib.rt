@@ -6,6 +6,8 @@ mod days;
 #[cfg(test)]
 mod networks;
 #[cfg(test)]
+mod refusals;
+#[cfg(test)]
 mod rules;
 #[cfg(test)]
 mod timetables;

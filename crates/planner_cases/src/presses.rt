@@ -77,8 +77,9 @@ fn splits<A: Abort, N: Network + Drop>(mut bench: Bench<A, N>) -> Result<(), Fai
 /// Refusals of calls on a draft or a search, all but two, and that the next call finds all as it was. `cases` has the
 /// refusal of a rule after 32 (4) by a problem, and `step_by_step` that of an event that is not there (12).
 fn refusals<A: Abort, N: Network + Drop>(mut bench: Bench<A, N>) -> Result<(), Fail> {
-    bench.example()?;
     let rt = bench.rt;
+    assert_eq!(rt; bench.draft.drop(0), Err(Refusal::NoSuchRule));
+    bench.example()?;
     assert_eq!(rt; bench.draft.set(33, 60), Err(Refusal::EventCount));
     assert_eq!(rt; bench.draft.set(3, 10_081), Err(Refusal::HorizonRange));
     assert_eq!(rt; bench.draft.set(3, 60), Err(Refusal::RulesStand));
