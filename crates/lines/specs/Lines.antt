@@ -9,6 +9,7 @@ use Rattle.std.specs.Prelude.{◌≡◌, ℕ, ◌+◌, ◌-◌, ◌^◌, min, tr
 use Rattle.std.specs.Option.{option_map_or}
 use Rattle.std.specs.Iterator.{Count, at_most}
 use Rattle.std.specs.Io.BufRead.{drop_through}
+use Rattle.std.specs.Io.Iter.{u64_saturate}
 use Rattle.std.specs.Io.KnownBytes.{IsAtEnd}
 use Rattle.std.specs.declared.io.Error.{Error}
 use Rattle.lines.specs.declared.line.Line.{Line}
@@ -16,9 +17,9 @@ use Rattle.lines.specs.declared.input.Lines.{Lines}
 use Rattle.lines.specs.Line.{text_of, begun}
 use Rattle.lines.specs.Source.{line_feed, known_left, grown}
 
--- each turn may end a line, and the reader's end may end one more
+-- each turn may end a line, and the reader's end may end one more; so there are no more than 2^64
 abbrev pub lines_left : {R : Type 0} → Lines R → Count
-lines_left lines = at_most (option_map_or (λ source. source.turns + 1) lines.source 0)
+lines_left lines = at_most (option_map_or (λ source. u64_saturate source.turns + 1) lines.source 0)
 
 -- the reader is there, and its first line has no byte yet
 abbrev pub AtStart : {R : Type 0} → Lines R → Type 0

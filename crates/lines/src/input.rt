@@ -67,3 +67,32 @@ pub fn read_lines(rt: &HostRuntime) -> Lines<Stdin>
         line: Line::new(),
     }
 }
+
+#[cfg(test)]
+mod tests {
+    use super::*;
+    use std::test::Fail;
+
+    /// The lines of a text.
+    fn lines_of(text: &[u8]) -> Lines<&[u8]> {
+        Lines {
+            source: Some(Source::new(text)),
+            line: Line::new(),
+        }
+    }
+
+    /// How many lines come after the next.
+    fn count_after_next<R: Read + Drop>(lines: &mut Lines<R>) -> usize {
+        lines.by_ref().skip(1).count()
+    }
+
+    #[test]
+    fn lines_behind_a_reference_are_counted(rt: HostRuntime) -> Result<(), Fail> {
+        let mut lines = lines_of(b"first\nsecond\n\nlast");
+        let first = lines.next().expect(&rt, "a line")?;
+        assert_eq!(rt; first.text(), Some(b"first".as_slice()));
+        assert_eq!(rt; count_after_next(&mut lines), 2);
+        assert!(rt; lines.next().is_none());
+        Ok(())
+    }
+}

@@ -1,5 +1,5 @@
 //! A reader, and the bytes that were read from it and are still to be taken.
-ghost use Rattle.std.specs.Prelude.{◌≡◌, ◌≤◌, length};
+ghost use Rattle.std.specs.Prelude.{◌≡◌, ◌-◌, ◌^◌, ◌≤◌, length};
 
 pub mod calls;
 
@@ -15,6 +15,8 @@ pub(crate) struct Source<R> {
     end: usize,
     /// How often a line may still be looked for: nothing says that a reader ends.
     pub(crate) turns: u64,
+    // a number behind a reference has no range of its own
+    ghost lasting: { turns ≤ 2 ^ 64 - 1 },
     ghost size: { length chunk ≡ 4096 },
     ghost ordered: { start ≤ end },
     ghost fits: { end ≤ 4096 },
