@@ -4,6 +4,8 @@
 #[cfg(test)]
 mod days;
 #[cfg(test)]
+mod lists;
+#[cfg(test)]
 mod networks;
 #[cfg(test)]
 mod refusals;

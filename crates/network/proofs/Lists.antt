@@ -1,6 +1,6 @@
 -- The limits of a list: how many they are, and all but the newest.
 use Rattle.std.proofs.Common.{◌≡◌, ℕ, ◌-◌, ◌+◌, ◌<◌, ◌≤◌, List, [], ◌∷◌, ◌++◌, length, get_or, take, ap, ◌∙◌, subst, arith}
-use Rattle.std.proofs.lemmas.List.{take_more, length-take-le}
+use Rattle.std.proofs.lemmas.List.{take_more}
 use Rattle.std.specs.List.{AllByRecursion}
 use Rattle.network.specs.Limits.{max_limits, nowhere}
 use Rattle.network.specs.Lists.{net_of}
@@ -10,9 +10,7 @@ use Rattle.network.proofs.Solutions.{all_first}
 
 -- no list has too many
 pub few_limits : (list : LimitList) → length (net_of list).limits ≤ max_limits
-few_limits list =
-    let within : list.count ≤ length list.limits = omega (arith, list.few, list.places) in
-    omega (arith, length-take-le list.count list.limits within, list.few)
+few_limits list = list.few
 
 module _ (count : ℕ) (ls : List Limit) (some : 0 < count) (few : count ≤ length ls) where
   -- the first limits are those but the newest, and the newest

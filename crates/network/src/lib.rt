@@ -6,6 +6,7 @@ mod calls;
 mod laws;
 mod limit;
 mod limit_list;
+mod limit_stack;
 
 pub use call::{Call, Reply};
 pub use calls::Network;

@@ -1,10 +1,10 @@
 //! A list of limits for a day, which both networks keep.
-ghost use Rattle.std.specs.Prelude.{◌≡◌, ◌≤◌, length, take};
+ghost use Rattle.std.specs.Prelude.{◌≤◌, length};
 ghost use Rattle.std.specs.List.{AllByRecursion};
 ghost use Rattle.std.proofs.Props.{props};
 ghost use Rattle.network.specs.Limits.{Lawful, max_limits};
 
-use crate::limit::{Limit, MAX_LIMITS};
+use crate::limit_stack::LimitStack;
 use problem::Day;
 
 pub mod calls;
@@ -13,10 +13,7 @@ pub mod calls;
 #[derive(Drop)]
 pub struct LimitList {
     day: Day,
-    count: usize,
-    // the first `count` are the limits; past them nothing is read
-    limits: [Limit; MAX_LIMITS],
-    ghost places: { length limits ≡ max_limits },
-    ghost few: { count ≤ max_limits },
-    ghost lawful: { AllByRecursion (Lawful day) (take count limits) } by { Prim.hlevel props },
+    limits: LimitStack,
+    ghost lawful: { AllByRecursion (Lawful day) limits } by { Prim.hlevel props },
+    ghost few: { length limits ≤ max_limits },
 }

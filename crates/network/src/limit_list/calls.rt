@@ -5,16 +5,10 @@ ghost use Rattle.problem.specs.Checks.{first_refusal, day_checks};
 ghost use Rattle.network.specs.Calls.{Emptied, Popped, refusal_before, with_limit};
 ghost use Rattle.network.specs.Lists.{net_of};
 
-use crate::limit::{Limit, MAX_LIMITS, check_limit};
+use crate::limit::{Limit, check_limit};
 use crate::limit_list::LimitList;
+use crate::limit_stack::LimitStack;
 use problem::{Day, Refusal};
-
-// what stands where no limit was put yet
-const NO_LIMIT: Limit = Limit {
-    x: 0,
-    y: 0,
-    bound: 0,
-};
 
 impl LimitList {
     /// No limits for the day of one event and horizon 0.
@@ -23,8 +17,7 @@ impl LimitList {
     {
         LimitList {
             day: Day::single(),
-            count: 0,
-            limits: [NO_LIMIT; MAX_LIMITS],
+            limits: LimitStack::new(),
         }
     }
 
@@ -39,14 +32,14 @@ impl LimitList {
     pub fn as_slice(&self) -> &[Limit]
         ensures { result.now ≡ (net_of self.now).limits }
     {
-        &self.limits[..self.count]
+        self.limits.as_slice()
     }
 
     /// How many limits there are.
     pub fn len(&self) -> usize
         ensures { result ≡ length (net_of self.now).limits }
     {
-        self.count
+        self.limits.len()
     }
 
     /// Takes the day of so many events and this horizon, with no limits. Refuses with 1 (events), then 2 (horizon).
@@ -55,7 +48,7 @@ impl LimitList {
         ensures cases { MatchResult result (λ _. Emptied events horizon (net_of self.new)) (λ _. self.new ≡ self.old) }
     {
         self.day = Day::new(events, horizon)?;
-        self.count = 0;
+        self.limits.clear();
         Ok(())
     }
 
@@ -64,9 +57,8 @@ impl LimitList {
         ensures refused { result_err result ≡ refusal_before (net_of self.old) limit }
         ensures cases { MatchResult result (λ _. net_of self.new ≡ with_limit (net_of self.old) limit) (λ _. self.new ≡ self.old) }
     {
-        check_limit(self.day, self.count, limit)?;
-        self.limits[self.count] = limit;
-        self.count += 1;
+        check_limit(self.day, self.limits.len(), limit)?;
+        self.limits.push(limit);
         Ok(())
     }
 
@@ -74,10 +66,10 @@ impl LimitList {
     pub fn pop(&mut self) -> Result<(), Refusal>
         ensures { Popped (net_of self.old) result (net_of self.new) }
     {
-        if self.count == 0 {
+        if self.limits.len() == 0 {
             return Err(Refusal::NoLimit);
         }
-        self.count -= 1;
+        self.limits.drop_newest();
         Ok(())
     }
 }

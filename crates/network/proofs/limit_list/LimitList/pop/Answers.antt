@@ -1,4 +1,5 @@
-use Rattle.std.proofs.Common.{◌≡◌, ◌-◌, [], ◌∷◌, ◌++◌, get_or, take, arith}
+use Rattle.std.proofs.Common.{◌≡◌, ◌-◌, [], ◌∷◌, ◌++◌, length, get_or, take, arith, subst, sym, ◌∙◌}
+use Rattle.std.proofs.lemmas.List.{take_all}
 use Rattle.std.specs.List.{AllByRecursion}
 use Rattle.network.specs.Limits.{Lawful, nowhere}
 use Rattle.network.proofs.Lists.{and_newest, all_but_newest}
@@ -7,14 +8,13 @@ use Rattle.network.proofs.limit_list.LimitList.pop.Goals as goal
 pub invariant_of-self-clause-lawful : goal.invariant_of-self-clause-lawful
 invariant_of-self-clause-lawful c =
     let list = c.args.self.now in
-    let lawful : AllByRecursion (Lawful list.day) (take (list.count - 1) list.limits) =
-    all_but_newest list.count list.limits (omega arith) (omega (arith, list.places, list.few)) (Lawful list.day) list.lawful in
-    search lawful
+    let all : AllByRecursion (Lawful list.day) (take (length list.limits) list.limits) = subst (AllByRecursion (Lawful list.day)) (sym (take_all (length list.limits) list.limits (omega arith))) list.lawful in
+    let lawful : AllByRecursion (Lawful list.day) (take (length list.limits - 1) list.limits) = all_but_newest (length list.limits) list.limits (omega arith) (omega arith) (Lawful list.day) all in
+    subst (AllByRecursion (Lawful list.day)) (sym c.drop_newest.ensures) lawful
 
 pub returns : goal.returns
 returns c =
-    let list = c.args.self.now in
-    let last = get_or list.limits (list.count - 1) nowhere in
-    let without : take list.count list.limits ≡ take (list.count - 1) list.limits ++ (last ∷ []) =
-    and_newest list.count list.limits (omega arith) (omega (arith, list.places, list.few)) in
+    let limits = c.args.self.now.limits in
+    let last = get_or limits (length limits - 1) nowhere in
+    let without : limits ≡ take (length limits - 1) limits ++ (last ∷ []) = sym (take_all (length limits) limits (omega arith)) ∙ and_newest (length limits) limits (omega arith) (omega arith) in
     (last, cc)
